@@ -1,0 +1,4 @@
+pub mod Digits
+pub mod Equal
+pub mod Trips
+pub mod Values

@@ -1,0 +1,4 @@
+pub mod Patterns
+pub mod Bytes
+pub mod Kinds
+pub mod Values
