@@ -1,3 +1,4 @@
 pub mod Equal
 pub mod Laws
 pub mod Rows
+pub mod Values

@@ -1,0 +1,5 @@
+use Rattle.flexlist.proofs.Exact.{change-bound}
+use Rattle.flexlist.proofs.change_bound.Needs as need
+
+pub returns : need.returns
+returns c = change-bound
