@@ -4,3 +4,4 @@ pub mod Cuts
 pub mod Directories
 pub mod Stores
 pub mod RowStores
+pub mod FlashStores
