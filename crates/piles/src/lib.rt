@@ -80,4 +80,64 @@ mod tests {
         let mut area = [0u8; 2003];
         thousand(FlashStore::new(&mut area))
     }
+
+    // A layer over a layer: the upper one remembers row 0, which the lower one has forgotten after 32 others.
+    fn upper_remembers<S: BlockStore<Reading = Count> + Drop>(store: S) -> Result<(), Fail> {
+        let mut lower = Sharing::new(store);
+        for k in 0..32u32 {
+            check_eq(lower.put(&[count(k as i16)]), Ok(k))?;
+        }
+        let mut pile = Sharing::new(lower);
+        check_eq(pile.put(&[count(0)]), Ok(0))?;
+        check_eq(pile.put(&[count(32)]), Ok(32))?;
+        check_eq(pile.put(&[count(0)]), Ok(0))?;
+        check_eq(pile.put(&[]), Err(Cause::RowLength))?;
+        check_eq(pile.count(), 33)
+    }
+
+    // The same rows with no upper layer: row 0 is a block again.
+    fn lower_forgets<S: BlockStore<Reading = Count> + Drop>(store: S) -> Result<(), Fail> {
+        let mut lower = Sharing::new(store);
+        for k in 0..33u32 {
+            check_eq(lower.put(&[count(k as i16)]), Ok(k))?;
+        }
+        check_eq(lower.put(&[count(1)]), Ok(1))?;
+        check_eq(lower.put(&[count(0)]), Ok(33))
+    }
+
+    #[test]
+    fn layers_over_the_row_store() -> Result<(), Fail> {
+        let mut area = [count(9); 34];
+        upper_remembers(RowStore::new(&mut area))?;
+        lower_forgets(RowStore::new(&mut area))
+    }
+
+    #[test]
+    fn layers_over_the_flash_store() -> Result<(), Fail> {
+        let mut area = [0u8; 68];
+        upper_remembers(FlashStore::new(&mut area))?;
+        lower_forgets(FlashStore::new(&mut area))
+    }
+
+    // +0 and −0 are two rows, though they rank alike; all patterns that are not a number are one.
+    fn zeros<S: BlockStore<Reading = Single> + Drop>(store: S) -> Result<(), Fail> {
+        let mut pile = Sharing::new(Sharing::new(store));
+        check_eq(pile.put(&[Single::from_bits(0)]), Ok(0))?;
+        check_eq(pile.put(&[Single::from_bits(0x8000_0000)]), Ok(1))?;
+        check_eq(pile.put(&[Single::from_bits(0x7F80_0001)]), Ok(2))?;
+        check_eq(pile.put(&[Single::from_bits(0xFFFF_FFFF)]), Ok(2))?;
+        check_eq(pile.put(&[Single::from_bits(0)]), Ok(0))?;
+        let Some(minus) = pile.reading(1, 0) else {
+            return Err(Fail::new("block 1"));
+        };
+        check_eq(minus.to_bits(), 0x8000_0000)
+    }
+
+    #[test]
+    fn zeros_are_not_shared() -> Result<(), Fail> {
+        let mut readings = [Single::from_bits(1); 3];
+        zeros(RowStore::new(&mut readings))?;
+        let mut bytes = [0u8; 12];
+        zeros(FlashStore::new(&mut bytes))
+    }
 }
