@@ -42,11 +42,17 @@ pub trait Reading: Copy {
     // The encoded reading.
     ghost bytes: { Self → List ℕ };
 
+    // The reading that bytes stand for, where they are known to be an encoded reading; other bytes stand for some reading too.
+    ghost restored: { List ℕ → Self };
+
     // Every encoded reading is as long as the width.
     law measured: { (x : Self) → length (bytes x) ≡ wide };
 
     // Two readings with the same bytes are one.
     law told: { (x y : Self) → bytes x ≡ bytes y → x ≡ y };
+
+    // The bytes of a reading stand for it.
+    law back: { (x : Self) → restored (bytes x) ≡ x };
 
     fn kind_code() -> u8
         ensures { λ r. ⌜ r ≡ coded ⌝ };
@@ -71,6 +77,10 @@ pub trait Reading: Copy {
     // The reading whose encoding is exactly `from`; none where no reading has it.
     fn decode(from: &[u8]) -> Option<Self>
         ensures { λ r. ⌜ Decoded bytes (now (from .entry)) r ⌝ };
+
+    // The reading whose encoding `from` is known to be, without a test; some reading where it is none.
+    fn restore(from: &[u8]) -> Self
+        ensures { λ r. ⌜ r ≡ restored (now (from .entry)) ⌝ };
 }
 
 #[cfg(test)]

@@ -2,6 +2,7 @@
 ghost use mathlib.Core.Path.{_≡_};
 ghost use Rattle.std.specs.Orderings.{Decides};
 ghost use Rattle.reading.specs.Kinds.{count-missing, count-bytes, count-said, Decoded};
+ghost use Rattle.reading.specs.Restoring.{restored-count};
 use super::Count;
 use crate::Reading;
 use crate::bytes::place;
@@ -31,6 +32,15 @@ fn read(from: &[u8]) -> Option<Count>
     Some(Count::from_bytes(*high, *low))
 }
 
+fn recall(from: &[u8]) -> Count
+    ensures { λ r. ⌜ r ≡ restored-count (now (from .entry)) ⌝ }
+{
+    let [high, low] = from else {
+        return Count { value: 0 };
+    };
+    Count::from_bytes(*high, *low)
+}
+
 pub impl Reading for Count as CountReading {
     const CODE: u8 = 1;
 
@@ -45,6 +55,8 @@ pub impl Reading for Count as CountReading {
     ghost ranked = { λ x. x .value };
 
     ghost bytes = { λ x. count-bytes (x .value) };
+
+    ghost restored = { restored-count };
 
     fn kind_code() -> u8 {
         Self::CODE
@@ -72,5 +84,9 @@ pub impl Reading for Count as CountReading {
 
     fn decode(from: &[u8]) -> Option<Count> {
         read(from)
+    }
+
+    fn restore(from: &[u8]) -> Count {
+        recall(from)
     }
 }

@@ -4,6 +4,7 @@ ghost use Rattle.std.specs.Orderings.{Decides};
 ghost use Rattle.reading.specs.Kinds.{single-rank};
 ghost use Rattle.reading.specs.Bytes.{four-bytes};
 ghost use Rattle.reading.specs.Patterns.{not-a-number};
+ghost use Rattle.reading.specs.Restoring.{restored-single};
 use super::Single;
 use super::bits::QUIET;
 use super::bits::SIGN;
@@ -15,6 +16,15 @@ fn same_bits(a: &Single, b: &Single) -> bool
     ensures { λ r. ⌜ Decides r (now (a .entry) ≡ now (b .entry)) ⌝ }
 {
     a.bits == b.bits
+}
+
+fn recall(from: &[u8]) -> Single
+    ensures { λ r. ⌜ r ≡ restored-single (now (from .entry)) ⌝ }
+{
+    let [a, b, c, d] = from else {
+        return Single::from_bits(0);
+    };
+    Single::from_bits(u32::from_be_bytes([*a, *b, *c, *d]))
 }
 
 pub impl Reading for Single as SingleReading {
@@ -31,6 +41,8 @@ pub impl Reading for Single as SingleReading {
     ghost ranked = { λ x. single-rank (x .bits) };
 
     ghost bytes = { λ x. four-bytes (x .bits) };
+
+    ghost restored = { restored-single };
 
     fn kind_code() -> u8 {
         Self::CODE
@@ -71,5 +83,9 @@ pub impl Reading for Single as SingleReading {
             return None;
         }
         Some(Single { bits })
+    }
+
+    fn restore(from: &[u8]) -> Single {
+        recall(from)
     }
 }

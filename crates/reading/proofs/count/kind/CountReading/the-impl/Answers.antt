@@ -19,3 +19,6 @@ pub told-law : need.told-law
 told-law x y e =
     let bits : ofZ w16 (x .value) ≡ ofZ w16 (y .value) = sym (two-back _ (whole x)) ∙ ap of-two e ∙ two-back _ (whole y) in
     count-equal x y (sym (toZ-ofZ w16 _ (fitting x)) ∙ ap (toZ w16) bits ∙ toZ-ofZ w16 _ (fitting y))
+
+pub back-law : need.back-law
+back-law x = count-equal _ x (ap (toZ w16) (two-back _ (whole x)) ∙ toZ-ofZ w16 _ (fitting x))

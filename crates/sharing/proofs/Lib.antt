@@ -1,0 +1,4 @@
+pub mod Comparing
+pub mod Finding
+pub mod Layering
+pub mod Turning
