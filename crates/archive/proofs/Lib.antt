@@ -1,0 +1,7 @@
+pub mod Later
+pub mod Moved
+pub mod Next
+pub mod Standing
+pub mod Planned
+pub mod Tried
+pub mod Looks

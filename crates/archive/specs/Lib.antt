@@ -1,0 +1,5 @@
+pub mod Records
+pub mod Stands
+pub mod Steps
+pub mod Refusals
+pub mod Looking

@@ -1,0 +1,16 @@
+pub mod Tables
+pub mod Rows
+pub mod Held
+pub mod Counts
+pub mod Laying
+pub mod Arms
+pub mod Changes
+pub mod Cuts
+pub mod Inserts
+pub mod Leads
+pub mod Joins
+pub mod Removals
+pub mod Parts
+pub mod Plans
+pub mod Gaps
+pub mod Trees

@@ -1,0 +1,10 @@
+pub mod Held
+pub mod Counts
+pub mod Ways
+pub mod Neighbours
+pub mod Readings
+pub mod Finds
+pub mod Stored
+pub mod Parts
+pub mod Copies
+pub mod Sums
