@@ -7,7 +7,6 @@ mod version;
 
 pub use fault::EditFault;
 pub use fault::ReadFault;
-pub use look::look_insert;
 pub use steps::steps_stand;
 pub use version::Kind;
 pub use version::Version;

@@ -18,7 +18,7 @@ pub const NODES: usize = 60_000;
 pub const VERSIONS: usize = 4_096;
 
 // The record of a version in use.
-pub fn version_at(versions: &[Version], count: u32, version: u32) -> Option<Version>
+pub(crate) fn version_at(versions: &[Version], count: u32, version: u32) -> Option<Version>
     ensures { λ r. ⌜ r ≡ in-use (now (versions .entry)) count version ⌝ }
 {
     if count <= version || versions.len() <= version as usize {
@@ -28,7 +28,7 @@ pub fn version_at(versions: &[Version], count: u32, version: u32) -> Option<Vers
 }
 
 // What is tried after version and place.
-pub fn later_fault(
+pub(crate) fn later_fault(
     level: u8,
     len: usize,
     crowded: bool,
@@ -57,20 +57,20 @@ pub fn later_fault(
 }
 
 // How many nodes are free, of those that an archive uses.
-pub fn free_nodes(len: usize, used: u32) -> usize
+pub(crate) fn free_nodes(len: usize, used: u32) -> usize
     ensures { λ r. ⌜ r ≡ min 60000 len - used ⌝ }
 {
     len.min(NODES).saturating_sub(used as usize)
 }
 
 // Is the table of versions full?
-pub fn is_full(len: usize, count: u32) -> bool
+pub(crate) fn is_full(len: usize, count: u32) -> bool
     ensures { λ r. ⌜ r ≡ leb (min 4096 len) count ⌝ }
 {
     len.min(VERSIONS) <= count as usize
 }
 
-pub fn look_insert<Q: Summary + Copy>(
+pub(crate) fn look_insert<Q: Summary + Copy>(
     nodes: &[Node<Q>],
     used: u32,
     versions: &[Version],

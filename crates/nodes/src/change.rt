@@ -12,7 +12,7 @@ use store::BlockStore;
 use summary::Summary;
 
 // Writes the path to the block that `upto` blocks lead to, with the block and length given in place of its own.
-pub fn change<S: BlockStore, Q: Summary<Reading = S::Reading> + Copy>(
+pub(crate) fn change<S: BlockStore, Q: Summary<Reading = S::Reading> + Copy>(
     nodes: &mut [Node<Q>],
     used: u32,
     store: &S,

@@ -37,7 +37,7 @@ fn cut<S: BlockStore, Q: Summary<Reading = S::Reading> + Copy>(
 }
 
 // Writes the tree with the block given, of the level given, after the block that `upto` blocks lead to.
-pub fn insert<S: BlockStore, Q: Summary<Reading = S::Reading> + Copy>(
+pub(crate) fn insert<S: BlockStore, Q: Summary<Reading = S::Reading> + Copy>(
     nodes: &mut [Node<Q>],
     used: u32,
     store: &S,

@@ -12,7 +12,7 @@ use store::BlockStore;
 use summary::Summary;
 
 // Writes the tree up to the block that `upto` blocks lead to; what ends just there is kept.
-pub fn left<S: BlockStore, Q: Summary<Reading = S::Reading> + Copy>(
+pub(crate) fn left<S: BlockStore, Q: Summary<Reading = S::Reading> + Copy>(
     nodes: &mut [Node<Q>],
     used: u32,
     store: &S,
@@ -68,7 +68,7 @@ pub fn left<S: BlockStore, Q: Summary<Reading = S::Reading> + Copy>(
 }
 
 // Writes what stands after the block that `upto` blocks lead to, led by the block given.
-pub fn right<S: BlockStore, Q: Summary<Reading = S::Reading> + Copy>(
+pub(crate) fn right<S: BlockStore, Q: Summary<Reading = S::Reading> + Copy>(
     nodes: &mut [Node<Q>],
     used: u32,
     store: &S,

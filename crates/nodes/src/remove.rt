@@ -132,7 +132,7 @@ fn merge<S: BlockStore, Q: Summary<Reading = S::Reading> + Copy>(
 }
 
 // Writes the tree without the block that `upto` blocks lead to.
-pub fn remove<S: BlockStore, Q: Summary<Reading = S::Reading> + Copy>(
+pub(crate) fn remove<S: BlockStore, Q: Summary<Reading = S::Reading> + Copy>(
     nodes: &mut [Node<Q>],
     used: u32,
     store: &S,

@@ -78,7 +78,7 @@ pub fn blocks_in<Q: Copy>(nodes: &[Node<Q>], at: u32) -> u32
 }
 
 // Writes a node at the next free entry, and answers the one after it; where there is no room, nothing is written.
-pub fn write<Q: Copy>(nodes: &mut [Node<Q>], used: u32, node: Node<Q>) -> u32
+pub(crate) fn write<Q: Copy>(nodes: &mut [Node<Q>], used: u32, node: Node<Q>) -> u32
     ensures { λ r. ⌜ Wrote (now (nodes .entry)) used node (now (nodes .exit)) r ⌝ }
 {
     let at = used as usize;

@@ -8,7 +8,7 @@ use nodes::view_at;
 use summary::Summary;
 
 // One node more, if the walk went well.
-pub fn one_more(count: Option<u32>) -> Option<u32>
+pub(crate) fn one_more(count: Option<u32>) -> Option<u32>
     ensures { λ r. ⌜ r ≡ one-more count ⌝ }
 {
     match count {
@@ -18,7 +18,7 @@ pub fn one_more(count: Option<u32>) -> Option<u32>
 }
 
 // Goes to the block that `upto` blocks lead to, and counts the nodes on the way.
-pub fn path_walk<Q: Summary + Copy>(nodes: &[Node<Q>], at: u32, upto: u32) -> Option<u32>
+pub(crate) fn path_walk<Q: Summary + Copy>(nodes: &[Node<Q>], at: u32, upto: u32) -> Option<u32>
     ensures { λ r. ⌜ Path-counted (Q·Summary .means) (now (nodes .entry)) at upto r ⌝ }
 {
     match view_at(nodes, at) {
@@ -42,7 +42,7 @@ pub fn path_walk<Q: Summary + Copy>(nodes: &[Node<Q>], at: u32, upto: u32) -> Op
 }
 
 // Two paths that part at a fork, and the fork.
-pub fn two_and_fork(first: Option<u32>, second: Option<u32>) -> Option<u32>
+pub(crate) fn two_and_fork(first: Option<u32>, second: Option<u32>) -> Option<u32>
     ensures { λ r. ⌜ r ≡ two-and-fork first second ⌝ }
 {
     let Some(m) = first else {
@@ -55,7 +55,7 @@ pub fn two_and_fork(first: Option<u32>, second: Option<u32>) -> Option<u32>
 }
 
 // Goes to the block that `upto` blocks lead to and to the one before it, and counts the nodes on the way once.
-pub fn paths_walk<Q: Summary + Copy>(nodes: &[Node<Q>], at: u32, upto: u32) -> Option<u32>
+pub(crate) fn paths_walk<Q: Summary + Copy>(nodes: &[Node<Q>], at: u32, upto: u32) -> Option<u32>
     ensures { λ r. ⌜ Paths-counted (Q·Summary .means) (now (nodes .entry)) at upto r ⌝ }
 {
     match view_at(nodes, at) {

@@ -11,7 +11,7 @@ use nodes::view_at;
 use summary::Summary;
 
 // How many readings the node at an entry counts.
-pub fn readings_in<Q: Copy>(nodes: &[Node<Q>], at: u32) -> u32
+pub(crate) fn readings_in<Q: Copy>(nodes: &[Node<Q>], at: u32) -> u32
     ensures { λ r. ⌜ r ≡ readings-in (nth (now (nodes .entry)) at) ⌝ }
 {
     match entry(nodes, at) {
@@ -21,7 +21,7 @@ pub fn readings_in<Q: Copy>(nodes: &[Node<Q>], at: u32) -> u32
 }
 
 // One node further from the root.
-pub fn farther(found: Option<Found>) -> Option<Found>
+pub(crate) fn farther(found: Option<Found>) -> Option<Found>
     ensures { λ r. ⌜ r ≡ farther found ⌝ }
 {
     match found {
@@ -35,7 +35,7 @@ pub fn farther(found: Option<Found>) -> Option<Found>
 }
 
 // Goes to the block that has the reading at a position.
-pub fn find_walk<Q: Summary + Copy>(nodes: &[Node<Q>], at: u32, position: u32) -> Option<Found>
+pub(crate) fn find_walk<Q: Summary + Copy>(nodes: &[Node<Q>], at: u32, position: u32) -> Option<Found>
     ensures { λ r. ⌜ Finds (Q·Summary .means) (now (nodes .entry)) at position r ⌝ }
 {
     match view_at(nodes, at) {

@@ -7,7 +7,7 @@ use store::BlockStore;
 use summary::Summary;
 
 // The reading at a position, read from the block that has it.
-pub fn read<S: BlockStore, Q: Summary<Reading = S::Reading> + Copy>(
+pub(crate) fn read<S: BlockStore, Q: Summary<Reading = S::Reading> + Copy>(
     nodes: &[Node<Q>],
     store: &S,
     at: u32,
