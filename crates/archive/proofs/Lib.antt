@@ -5,3 +5,4 @@ pub mod Standing
 pub mod Planned
 pub mod Tried
 pub mod Looks
+pub mod Edited

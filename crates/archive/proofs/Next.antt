@@ -38,7 +38,7 @@ module _ {R Q : Type 0} (means : Summing R Q) where
   given-by es (x ∷ xs) k i (inr (inl h)) = let g = k .0 .given in omega arith
   given-by es (x ∷ xs) k i (inr (inr h)) = given-by es xs (k .1) i (inr h)
 
-  agree-later : (e : Edit R) (es : List (Edit R)) (v : ℕ) (t : Laid) → FlexList 0 (blocks-of (list-of es v)) (plain t) → Agree means (content-of es) (content-of (e ∷ es)) t
+  pub agree-later : (e : Edit R) (es : List (Edit R)) (v : ℕ) (t : Laid) → FlexList 0 (blocks-of (list-of es v)) (plain t) → Agree means (content-of es) (content-of (e ∷ es)) t
   agree-later e es v t f i h =
       let ids : identities (plain t) ≡ 0 ∷ identities-of (list-of es v) = flex-identities f ∙ ap (λ l. 0 ∷ l) (ids-blocks (list-of es v)) in
       content-later e es i (given-by es (list-of es v) (version-sound es v .known) i (subst (Among i) ids h))
