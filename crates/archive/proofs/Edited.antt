@@ -62,7 +62,7 @@ module _ {R Q : Type 0} (means : Summing R Q) (s : Tables Q) (es : List (Edit R)
       let t = b .tree in
       let moved = holds-moved means (content-of es) (content-of (e ∷ es)) (s .nodes) (s .nodes) t (agree-later means e es (base-of e) t (w .shaped)) (λ x k. refl) (w .holds) in
       subst (λ r. Ready means rows (content-of (e ∷ es)) (s .nodes) (s .used) r t) (sym (b .told-of .root-is))
-        (ready (e ∷ es) (list-of es (base-of e)) t (w .shaped) known (w .fair) (w .few) means rows (s .nodes) (s .used) moved (w .under) h)
+      (ready (e ∷ es) (list-of es (base-of e)) t (w .shaped) known (w .fair) (w .few) means rows (s .nodes) (s .used) moved (w .under) h)
 
   pub base-place : (place : ℕ) → place ≤ length (list-of es (base-of e)) → Counted-to (content-of (e ∷ es)) (b .tree) place place
   base-place place h =

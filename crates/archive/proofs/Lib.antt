@@ -6,3 +6,4 @@ pub mod Planned
 pub mod Tried
 pub mod Looks
 pub mod Edited
+pub mod Inserts

@@ -12,7 +12,7 @@ use Rattle.archive.specs.Refusals.{later-fault}
 use Rattle.archive.proofs.Later.{some-none}
 
 -- where a test chooses between a refusal and the rest, and the rest is left, the test failed
-passed : (b : Bool) (f : EditFault) (o : Option EditFault) → cond b (Some f) o ≡ None → (b ≡ false) × (o ≡ None)
+pub passed : (b : Bool) (f : EditFault) (o : Option EditFault) → cond b (Some f) o ≡ None → (b ≡ false) × (o ≡ None)
 passed true f o e = absurd (some-none f e)
 passed false f o e = (refl, e)
 

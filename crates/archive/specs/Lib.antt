@@ -3,3 +3,4 @@ pub mod Stands
 pub mod Steps
 pub mod Refusals
 pub mod Looking
+pub mod Editing

@@ -1,4 +1,6 @@
 // Why a call is refused.
+ghost use mathlib.Core.Path.{_≡_};
+ghost use Rattle.archive.specs.declared.fault.EditFault.the-variants.{Store};
 use store::Cause;
 
 // Why an edit is refused; the first that holds is answered.
@@ -31,4 +33,12 @@ pub enum ReadFault {
     Position,
     // The output is too short.
     Output,
+}
+
+pub impl From<Cause> for EditFault as CauseInEdit {
+    ghost converts = { λ c f. f ≡ Store c };
+
+    fn from(cause: Cause) -> EditFault {
+        EditFault::Store(cause)
+    }
 }

@@ -1,6 +1,7 @@
-// The trace archive: what its tables stand for, its refusals, and the look that every edit takes before it changes anything. The calls
-// themselves come with the next delivery.
+// The trace archive: what its tables stand for, its refusals, and an insert over the caller's slices. The public calls come with the next
+// delivery.
 mod fault;
+mod insert;
 mod look;
 mod steps;
 mod version;

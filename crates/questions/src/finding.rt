@@ -35,7 +35,11 @@ pub(crate) fn farther(found: Option<Found>) -> Option<Found>
 }
 
 // Goes to the block that has the reading at a position.
-pub(crate) fn find_walk<Q: Summary + Copy>(nodes: &[Node<Q>], at: u32, position: u32) -> Option<Found>
+pub(crate) fn find_walk<Q: Summary + Copy>(
+    nodes: &[Node<Q>],
+    at: u32,
+    position: u32,
+) -> Option<Found>
     ensures { λ r. ⌜ Finds (Q·Summary .means) (now (nodes .entry)) at position r ⌝ }
 {
     match view_at(nodes, at) {
