@@ -7,3 +7,4 @@ pub mod Tried
 pub mod Looks
 pub mod Edited
 pub mod Inserts
+pub mod Beginnings

@@ -4,3 +4,4 @@ pub mod Steps
 pub mod Refusals
 pub mod Looking
 pub mod Editing
+pub mod Beginning

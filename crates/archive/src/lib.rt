@@ -1,5 +1,7 @@
 // The trace archive: what its tables stand for, its refusals, and an insert over the caller's slices. The public calls come with the next
 // delivery.
+mod begin;
+mod begins;
 mod fault;
 mod insert;
 mod look;
