@@ -8,3 +8,4 @@ pub mod Looks
 pub mod Edited
 pub mod Inserts
 pub mod Beginnings
+pub mod Roots
