@@ -42,7 +42,7 @@ use Rattle.archive.specs.Records.{readings-in, edit-record}
 use Rattle.archive.specs.Stands.{Tables, Fair, Tables-stand, Rows-stand, Stands, node-limit, version-limit}
 use Rattle.archive.specs.Refusals.{insert-refusal, later-fault, full, free}
 use Rattle.archive.specs.Looking.{Refused-or}
-use Rattle.archive.specs.Editing.{By-refusal, Insert-accepted}
+use Rattle.archive.specs.Editing.{By-refusal, Row-accepted}
 use Rattle.archive.proofs.Later.{nth-front, nth-end, nth-within, some-none, list-later, list-new}
 use Rattle.archive.proofs.Planned.{insert-planned}
 use Rattle.archive.proofs.Tried.{passed, all-passed}
@@ -70,7 +70,7 @@ pub looked-accepted : (o : Option EditFault) (v : Option Version) (from : Versio
 looked-accepted (Some f) v from b accepted refused h k = let z : _≡_ {A = ℕ} 0 1 = cc in absurd (omega arith)
 looked-accepted None v from b accepted refused h k = k
 
-sub-is : (a b c : ℕ) → a ≡ b + c → a - b ≡ c
+pub sub-is : (a b c : ℕ) → a ≡ b + c → a - b ≡ c
 sub-is a b c e = omega arith
 
 module _ {R : Type 0} where
@@ -147,7 +147,7 @@ module _ {R Q S : Type 0} (means : Summing R Q) (rows : S → List (List R)) (re
     pub none : insert-refusal s es base place level (length row) ≡ None
     none = looked-ok _ _ from looked .0
 
-    pub accepted : Insert-accepted means rows refuses es s store base place level row (record { root = at; used = next }) nodes (set (s .versions) (s .count) noted) after
+    pub accepted : Row-accepted means rows refuses es s store (insert base place level) row (record { root = at; used = next }) nodes (set (s .versions) (s .count) noted) after
     unfolding new xs
     accepted =
         let e = insert base place level new in
@@ -198,8 +198,8 @@ module _ {R Q S : Type 0} (means : Summing R Q) (rows : S → List (List R)) (re
 
     -- the same as the insert's answer, where the table of versions holds the record
     pub answered : (versions : List Version) → versions ≡ set (s .versions) (s .count) noted
-        → By-refusal (insert-refusal s es base place level (length row)) (Ok (record { root = at; used = next })) (λ b. Insert-accepted means rows refuses es s store base place level row b nodes versions after) (refuses store row)
+        → By-refusal (insert-refusal s es base place level (length row)) (Ok (record { root = at; used = next })) (λ b. Row-accepted means rows refuses es s store (insert base place level) row b nodes versions after) (refuses store row)
     answered versions is =
-        subst (λ l. By-refusal (insert-refusal s es base place level (length row)) (Ok (record { root = at; used = next })) (λ b. Insert-accepted means rows refuses es s store base place level row b nodes l after) (refuses store row)) (sym is)
+        subst (λ l. By-refusal (insert-refusal s es base place level (length row)) (Ok (record { root = at; used = next })) (λ b. Row-accepted means rows refuses es s store (insert base place level) row b nodes l after) (refuses store row)) (sym is)
         (looked-accepted (insert-refusal s es base place level (length row)) (nth (s .versions) base) from (record { root = at; used = next })
-        (λ b. Insert-accepted means rows refuses es s store base place level row b nodes (set (s .versions) (s .count) noted) after) (refuses store row) looked accepted)
+        (λ b. Row-accepted means rows refuses es s store (insert base place level) row b nodes (set (s .versions) (s .count) noted) after) (refuses store row) looked accepted)

@@ -211,3 +211,33 @@ module _ {R Q : Type 0} (means : Summing R Q) (s : Tables Q) (es : List (Edit R)
     pub insert-fine : later-fault level len (leb 500 (from .blocks)) (leb (version-limit s) (s .count)) (node-limit s - s .used) (way + 2) ≡ None
         → Refused-or (insert-refusal s es base place level len) (nth (s .versions) base) (Ok from)
     insert-fine e = looked-fine _ _ from (found from q) in-place (sym later-insert ∙ e)
+
+  -- ---- the same of a change
+
+  pub change-unknown : (place len : ℕ) → in-use (s .versions) (s .count) base ≡ None → Refused-or (change-refusal s es base place len) (nth (s .versions) base) (Err fault.Version)
+  change-unknown place len q =
+      looked-none (leb (length (list-of es base)) place) (later-fault 0 len false (full s es) (free s es) (path (list-of es base) (suc place))) (nth (s .versions) base) q
+
+  pub change-misplaced : (place len : ℕ) (from : Version) → in-use (s .versions) (s .count) base ≡ Some from → from .blocks ≤ place
+      → Refused-or (change-refusal s es base place len) (nth (s .versions) base) (Err fault.Place)
+  change-misplaced place len from q l =
+      let b = found from q in
+      let n = b .told-of .blocks-is in
+      looked-far _ _ (nth (s .versions) base) (b .low) (le-leb (length (list-of es base)) place (omega arith))
+
+  module _ (place len : ℕ) (from : Version) (q : in-use (s .versions) (s .count) base ≡ Some from) (l : place < from .blocks) (way : ℕ) (p : Path-counted means (s .nodes) (from .root) (suc place) (Some way)) where
+    later-change : later-fault 0 len false (leb (version-limit s) (s .count)) (node-limit s - s .used) way ≡ later-fault 0 len false (full s es) (free s es) (path (list-of es base) (suc place))
+    later-change =
+        let b = found from q in
+        let n = b .told-of .blocks-is in
+        later-same 0 len false false way (path (list-of es base) (suc place)) refl (same-some _ _ (way-is from b (suc place) (Some way) (omega arith) p))
+
+    there : leb (length (list-of es base)) place ≡ false
+    there = let n = found from q .told-of .blocks-is in lt-leb (length (list-of es base)) place (omega arith)
+
+    pub change-refused : (f : EditFault) → later-fault 0 len false (leb (version-limit s) (s .count)) (node-limit s - s .used) way ≡ Some f
+        → Refused-or (change-refusal s es base place len) (nth (s .versions) base) (Err f)
+    change-refused f e = looked-later _ _ (nth (s .versions) base) f (found from q .low) there (sym later-change ∙ e)
+
+    pub change-fine : later-fault 0 len false (leb (version-limit s) (s .count)) (node-limit s - s .used) way ≡ None → Refused-or (change-refusal s es base place len) (nth (s .versions) base) (Ok from)
+    change-fine e = looked-fine _ _ from (found from q) there (sym later-change ∙ e)

@@ -10,7 +10,7 @@ use Rattle.std.specs.declared.result.Result.the-variants.{Ok, Err}
 use Rattle.summary.specs.Summing.{Summing}
 use Rattle.store.specs.declared.cause.Cause.{Cause}
 use Rattle.store.specs.Interface.{Placed, Put}
-use Rattle.history.specs.Edits.{Content, Edit, insert}
+use Rattle.history.specs.Edits.{Content, Edit, insert, change}
 use Rattle.history.specs.Replay.{written-by}
 use Rattle.nodes.specs.declared.node.Node.{Node}
 use Rattle.nodes.specs.declared.walks.Built.{Built}
@@ -19,7 +19,7 @@ use Rattle.archive.specs.declared.version.Version.{Version}
 use Rattle.archive.specs.declared.fault.EditFault.{EditFault}
 use Rattle.archive.specs.declared.fault.EditFault.the-variants.{Store}
 use Rattle.archive.specs.Stands.{Tables, Stands}
-use Rattle.archive.specs.Refusals.{insert-refusal}
+use Rattle.archive.specs.Refusals.{insert-refusal, change-refusal}
 
 -- an answer, by the first refusal of the replay and by what the store says of the row
 abbrev pub By-refusal : Option EditFault → Result Built EditFault → (Built → Type 0) → (Cause → Type 0) → Type 0
@@ -41,16 +41,23 @@ module _ {R Q S : Type 0} (means : Summing R Q) (rows : S → List (List R)) (re
   Edit-left t store row (Ok b) nodes versions after = Row-edit-left t store row b nodes versions after
   Edit-left t store row (Err f) nodes versions after = (nodes ≡ t .nodes) × (versions ≡ t .versions) × (after ≡ store)
 
-  -- an accepted insert: the tables and the store stand for one edit more, whose nodes are as many as the sharing rule counts, and its row is put once
-  pub record Insert-accepted (es : List (Edit R)) (t : Tables Q) (store : S) (base place level : ℕ) (row : List R) (b : Built) (nodes : List (Node Q)) (versions : List Version) (after : S) : Type 0 where
+  -- an accepted edit with a row: the tables and the store stand for one edit more, whose nodes are as many as the sharing rule counts, and its row is
+  -- put once, under the number that the edit has
+  pub record Row-accepted (es : List (Edit R)) (t : Tables Q) (store : S) (make : Content R → Edit R) (row : List R) (b : Built) (nodes : List (Node Q)) (versions : List Version) (after : S) : Type 0 where
     pub number : ℕ
     pub fits : (c : Cause) → refuses store row c → ⊥
     pub put : Placed (rows store) row number (rows after)
-    pub written : b .used ≡ t .used + written-by es (insert base place level (record { number = number; row = row }))
-    pub stands : Stands means rows (insert base place level (record { number = number; row = row }) ∷ es) (record { nodes = nodes; used = b .used; versions = versions; count = t .count + 1 }) after
+    pub written : b .used ≡ t .used + written-by es (make (record { number = number; row = row }))
+    pub stands : Stands means rows (make (record { number = number; row = row }) ∷ es) (record { nodes = nodes; used = b .used; versions = versions; count = t .count + 1 }) after
 
   -- what an insert means on tables that stand for some edits
   abbrev pub Insert-law : Tables Q → S → ℕ → ℕ → ℕ → List R → Result Built EditFault → List (Node Q) → List Version → S → Type 0
   Insert-law t store base place level row r nodes versions after =
       (es : List (Edit R)) → Stands means rows es t store →
-      By-refusal (insert-refusal t es base place level (length row)) r (λ b. Insert-accepted es t store base place level row b nodes versions after) (refuses store row)
+      By-refusal (insert-refusal t es base place level (length row)) r (λ b. Row-accepted es t store (insert base place level) row b nodes versions after) (refuses store row)
+
+  -- what a change means on them
+  abbrev pub Change-law : Tables Q → S → ℕ → ℕ → List R → Result Built EditFault → List (Node Q) → List Version → S → Type 0
+  Change-law t store base place row r nodes versions after =
+      (es : List (Edit R)) → Stands means rows es t store →
+      By-refusal (change-refusal t es base place (length row)) r (λ b. Row-accepted es t store (change base place) row b nodes versions after) (refuses store row)

@@ -107,3 +107,32 @@ pub(crate) fn look_insert<Q: Summary + Copy>(
         None => Ok(from),
     }
 }
+
+pub(crate) fn look_change<Q: Summary + Copy>(
+    nodes: &[Node<Q>],
+    used: u32,
+    versions: &[Version],
+    count: u32,
+    base: u32,
+    place: u32,
+    len: usize,
+) -> Result<Version, EditFault>
+    ensures looked { λ r. ⌜ Looked (Q·Summary .means) (record { nodes = now (nodes .entry); used = used; versions = now (versions .entry); count = count }) (λ es. change-refusal (record { nodes = now (nodes .entry); used = used; versions = now (versions .entry); count = count }) es base place len) base r ⌝ }
+    ensures sized { λ r. ⌜ Cases r (λ _. (1 ≤ len) × (len ≤ 1024)) (λ _. Unit {0}) ⌝ }
+    ensures placed { λ r. ⌜ Cases r (λ from. place < from .blocks) (λ _. Unit {0}) ⌝ }
+{
+    let Some(from) = version_at(versions, count, base) else {
+        return Err(EditFault::Version);
+    };
+    if from.blocks <= place {
+        return Err(EditFault::Place);
+    }
+    let Some(way) = path(nodes, from.root, place + 1) else {
+        return Err(EditFault::Version);
+    };
+    let free = free_nodes(nodes.len(), used);
+    match later_fault(0, len, false, is_full(versions.len(), count), free, way as usize) {
+        Some(fault) => Err(fault),
+        None => Ok(from),
+    }
+}
