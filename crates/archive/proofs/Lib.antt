@@ -9,3 +9,4 @@ pub mod Edited
 pub mod Inserts
 pub mod Beginnings
 pub mod Roots
+pub mod Changes

@@ -2,6 +2,7 @@
 // delivery.
 mod begin;
 mod begins;
+mod change;
 mod fault;
 mod insert;
 mod look;
