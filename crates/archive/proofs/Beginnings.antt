@@ -48,6 +48,7 @@ module _ {R Q : Type 0} (means : Summing R Q) (nodes : List (Node Q)) (versions 
       only x y (inl h) (inl k) = h ∙ sym k
       only x y (inl h) (inr k) = absurd k
       only x y (inr h) k = absurd h
+
       low : (x : Spot) → Among x (spots (last 0 0)) → x .entry < 1
       low x (inl h) = let e = ap (λ z. z .entry) h in omega arith
       low x (inr h) = absurd h
@@ -89,4 +90,4 @@ module _ {R Q : Type 0} (means : Summing R Q) (nodes : List (Node Q)) (versions 
       let b = ne-eqb (length versions) 0 (λ h. omega arith) in
       let neither : (eqb (length nodes) 0 || eqb (length versions) 0) ≡ false = ap (λ t. t || eqb (length versions) 0) a ∙ b in
       subst (λ t. When t (Not-begun nodes versions (record { used = 1; count = 1 }) (set nodes 0 (lead-leaf q)) (set versions 0 (begun-record 0)))
-        (Has-begun means nodes versions (record { used = 1; count = 1 }) (set nodes 0 (lead-leaf q)) (set versions 0 (begun-record 0)))) (sym neither) (has q e)
+      (Has-begun means nodes versions (record { used = 1; count = 1 }) (set nodes 0 (lead-leaf q)) (set versions 0 (begun-record 0)))) (sym neither) (has q e)

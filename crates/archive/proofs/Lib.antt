@@ -10,3 +10,4 @@ pub mod Inserts
 pub mod Beginnings
 pub mod Roots
 pub mod Changes
+pub mod Removals

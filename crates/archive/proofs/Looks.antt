@@ -241,3 +241,37 @@ module _ {R Q : Type 0} (means : Summing R Q) (s : Tables Q) (es : List (Edit R)
 
     pub change-fine : later-fault 0 len false (leb (version-limit s) (s .count)) (node-limit s - s .used) way ≡ None → Refused-or (change-refusal s es base place len) (nth (s .versions) base) (Ok from)
     change-fine e = looked-fine _ _ from (found from q) there (sym later-change ∙ e)
+
+  -- ---- the same of a removal
+
+  pub removal-unknown : (place : ℕ) → in-use (s .versions) (s .count) base ≡ None → Refused-or (removal-refusal s es base place) (nth (s .versions) base) (Err fault.Version)
+  removal-unknown place q =
+      looked-none (leb (length (list-of es base)) place) (later-fault 0 1 false (full s es) (free s es) (two-paths (list-of es base) place - 1)) (nth (s .versions) base) q
+
+  pub removal-misplaced : (place : ℕ) (from : Version) → in-use (s .versions) (s .count) base ≡ Some from → from .blocks ≤ place → Refused-or (removal-refusal s es base place) (nth (s .versions) base) (Err fault.Place)
+  removal-misplaced place from q l =
+      let b = found from q in
+      let n = b .told-of .blocks-is in
+      looked-far _ _ (nth (s .versions) base) (b .low) (le-leb (length (list-of es base)) place (omega arith))
+
+  pub removal-lost : (place : ℕ) (from : Version) → in-use (s .versions) (s .count) base ≡ Some from → place < from .blocks → Paths-counted means (s .nodes) (from .root) (suc place) None → ⊥
+  removal-lost place from q l p =
+      let b = found from q in
+      let n = b .told-of .blocks-is in
+      some-none _ (sym (ways-are from b place None (omega arith) p))
+
+  module _ (place : ℕ) (from : Version) (q : in-use (s .versions) (s .count) base ≡ Some from) (l : place < from .blocks) (ways : ℕ) (p : Paths-counted means (s .nodes) (from .root) (suc place) (Some ways)) where
+    later-removal : later-fault 0 1 false (leb (version-limit s) (s .count)) (node-limit s - s .used) (ways - 1) ≡ later-fault 0 1 false (full s es) (free s es) (two-paths (list-of es base) place - 1)
+    later-removal =
+        let b = found from q in
+        let n = b .told-of .blocks-is in
+        later-same 0 1 false false (ways - 1) (two-paths (list-of es base) place - 1) refl (ap (λ k. k - 1) (same-some _ _ (ways-are from b place (Some ways) (omega arith) p)))
+
+    within : leb (length (list-of es base)) place ≡ false
+    within = let n = found from q .told-of .blocks-is in lt-leb (length (list-of es base)) place (omega arith)
+
+    pub removal-refused : (f : EditFault) → later-fault 0 1 false (leb (version-limit s) (s .count)) (node-limit s - s .used) (ways - 1) ≡ Some f → Refused-or (removal-refusal s es base place) (nth (s .versions) base) (Err f)
+    removal-refused f e = looked-later _ _ (nth (s .versions) base) f (found from q .low) within (sym later-removal ∙ e)
+
+    pub removal-fine : later-fault 0 1 false (leb (version-limit s) (s .count)) (node-limit s - s .used) (ways - 1) ≡ None → Refused-or (removal-refusal s es base place) (nth (s .versions) base) (Ok from)
+    removal-fine e = looked-fine _ _ from (found from q) within (sym later-removal ∙ e)

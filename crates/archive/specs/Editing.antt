@@ -10,7 +10,7 @@ use Rattle.std.specs.declared.result.Result.the-variants.{Ok, Err}
 use Rattle.summary.specs.Summing.{Summing}
 use Rattle.store.specs.declared.cause.Cause.{Cause}
 use Rattle.store.specs.Interface.{Placed, Put}
-use Rattle.history.specs.Edits.{Content, Edit, insert, change}
+use Rattle.history.specs.Edits.{Content, Edit, insert, change, removal}
 use Rattle.history.specs.Replay.{written-by}
 use Rattle.nodes.specs.declared.node.Node.{Node}
 use Rattle.nodes.specs.declared.walks.Built.{Built}
@@ -19,7 +19,7 @@ use Rattle.archive.specs.declared.version.Version.{Version}
 use Rattle.archive.specs.declared.fault.EditFault.{EditFault}
 use Rattle.archive.specs.declared.fault.EditFault.the-variants.{Store}
 use Rattle.archive.specs.Stands.{Tables, Stands}
-use Rattle.archive.specs.Refusals.{insert-refusal, change-refusal}
+use Rattle.archive.specs.Refusals.{insert-refusal, change-refusal, removal-refusal}
 
 -- an answer, by the first refusal of the replay and by what the store says of the row
 abbrev pub By-refusal : Option EditFault → Result Built EditFault → (Built → Type 0) → (Cause → Type 0) → Type 0
@@ -61,3 +61,24 @@ module _ {R Q S : Type 0} (means : Summing R Q) (rows : S → List (List R)) (re
   Change-law t store base place row r nodes versions after =
       (es : List (Edit R)) → Stands means rows es t store →
       By-refusal (change-refusal t es base place (length row)) r (λ b. Row-accepted es t store (change base place) row b nodes versions after) (refuses store row)
+
+-- What a removal left, whatever the tables held; the store is only read.
+pub record Removal-done {Q : Type 0} (t : Tables Q) (b : Built) (nodes : List (Node Q)) (versions : List Version) : Type 0 where
+  pub grown : Grown (t .nodes) (t .used) nodes (b .used)
+  pub version : Version
+  pub recorded : versions ≡ set (t .versions) (t .count) version
+
+abbrev pub Removal-left : {Q : Type 0} → Tables Q → Result Built EditFault → List (Node Q) → List Version → Type 0
+Removal-left t (Ok b) nodes versions = Removal-done t b nodes versions
+Removal-left t (Err f) nodes versions = (nodes ≡ t .nodes) × (versions ≡ t .versions)
+
+module _ {R Q S : Type 0} (means : Summing R Q) (rows : S → List (List R)) where
+  pub record Removal-accepted (es : List (Edit R)) (t : Tables Q) (store : S) (base place : ℕ) (b : Built) (nodes : List (Node Q)) (versions : List Version) : Type 0 where
+    pub written : b .used ≡ t .used + written-by es (removal base place)
+    pub stands : Stands means rows (removal base place ∷ es) (record { nodes = nodes; used = b .used; versions = versions; count = t .count + 1 }) store
+
+  -- what a removal means on tables that stand for some edits: no store refuses it
+  abbrev pub Removal-law : Tables Q → S → ℕ → ℕ → Result Built EditFault → List (Node Q) → List Version → Type 0
+  Removal-law t store base place r nodes versions =
+      (es : List (Edit R)) → Stands means rows es t store →
+      By-refusal (removal-refusal t es base place) r (λ b. Removal-accepted es t store base place b nodes versions) (λ _. ⊥)

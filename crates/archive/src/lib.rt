@@ -1,11 +1,12 @@
-// The trace archive: what its tables stand for, its refusals, and an insert over the caller's slices. The public calls come with the next
-// delivery.
+// The trace archive: what its tables stand for, its refusals, begin and the edits over the caller's slices. The public calls, and the questions
+// among them, come with the next delivery.
 mod begin;
 mod begins;
 mod change;
 mod fault;
 mod insert;
 mod look;
+mod removal;
 mod steps;
 mod version;
 

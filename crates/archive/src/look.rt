@@ -5,11 +5,12 @@ ghost use lib.Dec.{leb};
 ghost use lib.ListN.{length};
 ghost use Rattle.std.specs.Results.{Cases};
 ghost use Rattle.archive.specs.Looking.{in-use, Looked};
-ghost use Rattle.archive.specs.Refusals.{later-fault, insert-refusal, change-refusal};
+ghost use Rattle.archive.specs.Refusals.{later-fault, insert-refusal, change-refusal, removal-refusal};
 use crate::fault::EditFault;
 use crate::version::Version;
 use nodes::Node;
 use questions::path;
+use questions::paths;
 use summary::Summary;
 
 // The most nodes and versions that an archive uses of its tables.
@@ -131,7 +132,48 @@ pub(crate) fn look_change<Q: Summary + Copy>(
         return Err(EditFault::Version);
     };
     let free = free_nodes(nodes.len(), used);
-    match later_fault(0, len, false, is_full(versions.len(), count), free, way as usize) {
+    match later_fault(
+        0,
+        len,
+        false,
+        is_full(versions.len(), count),
+        free,
+        way as usize,
+    ) {
+        Some(fault) => Err(fault),
+        None => Ok(from),
+    }
+}
+
+pub(crate) fn look_removal<Q: Summary + Copy>(
+    nodes: &[Node<Q>],
+    used: u32,
+    versions: &[Version],
+    count: u32,
+    base: u32,
+    place: u32,
+) -> Result<Version, EditFault>
+    ensures looked { λ r. ⌜ Looked (Q·Summary .means) (record { nodes = now (nodes .entry); used = used; versions = now (versions .entry); count = count }) (λ es. removal-refusal (record { nodes = now (nodes .entry); used = used; versions = now (versions .entry); count = count }) es base place) base r ⌝ }
+    ensures placed { λ r. ⌜ Cases r (λ from. place < from .blocks) (λ _. Unit {0}) ⌝ }
+{
+    let Some(from) = version_at(versions, count, base) else {
+        return Err(EditFault::Version);
+    };
+    if from.blocks <= place {
+        return Err(EditFault::Place);
+    }
+    let Some(ways) = paths(nodes, from.root, place + 1) else {
+        return Err(EditFault::Version);
+    };
+    let free = free_nodes(nodes.len(), used);
+    match later_fault(
+        0,
+        1,
+        false,
+        is_full(versions.len(), count),
+        free,
+        (ways as usize).saturating_sub(1),
+    ) {
         Some(fault) => Err(fault),
         None => Ok(from),
     }

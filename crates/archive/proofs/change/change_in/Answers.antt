@@ -27,7 +27,7 @@ returns g c = record {
     put = c .in-Continue-block .ensures tt;
   };
   law = λ es st.
-    answered (g .Q·Summary .means) (g .S·BlockStore .rows) (g .S·BlockStore .refuses) _ _ _ (c .args .base) (c .args .place) (c .args .row .now) (c .in-Continue-from .from)
+      answered (g .Q·Summary .means) (g .S·BlockStore .rows) (g .S·BlockStore .refuses) _ _ _ (c .args .base) (c .args .place) (c .args .row .now) (c .in-Continue-from .from)
       (c .in-Continue-block .block) (c .write-change-built .last .nodes) (c .write-change-built .result .root) (c .write-change-built .result .used) (c .blocks-in .result) (c .readings-at .result)
       es st (c .in-Continue-from .ensures tt .looked es (st .tables)) (c .in-Continue-block .ensures tt) (c .write-change-built .ensures .grown) (c .write-change-built .ensures .changed) (c .write-change-built .kept .nodes)
       (c .blocks-in .ensures) (c .readings-at .ensures) (c .note .last .versions) (c .note .ensures);

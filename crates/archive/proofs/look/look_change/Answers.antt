@@ -32,10 +32,10 @@ returns-in-rest-path g c = record {
 pub returns-in-Some-later-fault : need.returns-in-Some-later-fault
 returns-in-Some-later-fault g c = record {
   looked = λ es st.
-    let tried = sym (c .in-Some-later-fault .ensures tt ∙ ap (λ b. later-fault 0 (c .args .len) false b (c .free-nodes-free .result) (c .in-Some-path .way)) (c .is-full .ensures)
+      let tried = sym (c .in-Some-later-fault .ensures tt ∙ ap (λ b. later-fault 0 (c .args .len) false b (c .free-nodes-free .result) (c .in-Some-path .way)) (c .is-full .ensures)
       ∙ ap (λ n. later-fault 0 (c .args .len) false (leb (min 4096 (length (c .args .versions .now))) (c .args .count)) n (c .in-Some-path .way)) (c .free-nodes-free .ensures)) in
-    let way : Path-counted (g .Q·Summary .means) (c .args .nodes .now) (c .in-Some .from .root) (suc (c .args .place)) (Some (c .in-Some-path .way)) = rw (add-one (c .args .place)) at (c .in-Some-path .ensures tt) in
-    change-refused (g .Q·Summary .means) _ es st (c .args .base) (c .args .place) (c .args .len) (c .in-Some .from) (sym (c .in-Some .ensures tt)) (c .if-from-place .left) (c .in-Some-path .way) way (c .in-Some-later-fault .fault) tried;
+      let way : Path-counted (g .Q·Summary .means) (c .args .nodes .now) (c .in-Some .from .root) (suc (c .args .place)) (Some (c .in-Some-path .way)) = rw (add-one (c .args .place)) at (c .in-Some-path .ensures tt) in
+      change-refused (g .Q·Summary .means) _ es st (c .args .base) (c .args .place) (c .args .len) (c .in-Some .from) (sym (c .in-Some .ensures tt)) (c .if-from-place .left) (c .in-Some-path .way) way (c .in-Some-later-fault .fault) tried;
   sized = tt;
   placed = tt;
 }
@@ -43,7 +43,7 @@ returns-in-Some-later-fault g c = record {
 pub returns-in-None : need.returns-in-None
 returns-in-None g c =
     let tried = sym (c .in-None .ensures tt ∙ ap (λ b. later-fault 0 (c .args .len) false b (c .free-nodes-free .result) (c .in-Some-path .way)) (c .is-full .ensures)
-      ∙ ap (λ n. later-fault 0 (c .args .len) false (leb (min 4096 (length (c .args .versions .now))) (c .args .count)) n (c .in-Some-path .way)) (c .free-nodes-free .ensures)) in
+    ∙ ap (λ n. later-fault 0 (c .args .len) false (leb (min 4096 (length (c .args .versions .now))) (c .args .count)) n (c .in-Some-path .way)) (c .free-nodes-free .ensures)) in
     let way : Path-counted (g .Q·Summary .means) (c .args .nodes .now) (c .in-Some .from .root) (suc (c .args .place)) (Some (c .in-Some-path .way)) = rw (add-one (c .args .place)) at (c .in-Some-path .ensures tt) in
     let p = all-passed 0 (c .args .len) false _ _ (c .in-Some-path .way) tried in
     record {
