@@ -13,4 +13,3 @@ pub mod Removals
 pub mod Parts
 pub mod Plans
 pub mod Gaps
-pub mod Trees
