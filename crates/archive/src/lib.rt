@@ -1,5 +1,7 @@
 // The trace archive: what its tables stand for, its refusals, begin and the edits over the caller's slices. The public calls, and the questions
 // among them, come with the next delivery.
+#![tactic(auto)]
+
 mod ask;
 mod begin;
 mod begins;

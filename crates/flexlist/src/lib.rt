@@ -1,5 +1,7 @@
 // The FlexList as mathematics. A version is a list of blocks, each with an identity and a level; its FlexList is a tree that
 // shares nodes with the trees of other versions. Each function here carries one theorem about that shape and costs nothing to call.
+#![tactic(auto)]
+
 ghost use Rattle.flexlist.specs.Shape.{ExactlyOne};
 ghost use Rattle.flexlist.specs.Nodes.{OwnStretches, PlacesAndPaths, SamePath, PathsHaveNodes};
 ghost use Rattle.flexlist.specs.Sharing.{InsertBound, ChangeBound, RemovalBound};

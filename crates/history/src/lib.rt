@@ -1,4 +1,6 @@
 // Edits, histories and what they cost. Mathematics only: each function carries one theorem and costs nothing to call.
+#![tactic(auto)]
+
 ghost use Rattle.history.specs.Chains.{ChainsReplayed};
 ghost use Rattle.history.specs.Edits.{HistoriesSound};
 ghost use Rattle.history.specs.Replay.{EditsBounded};

@@ -1,4 +1,6 @@
 // Takes raw counts in from standard input, and writes the journal of an archive of their rows to standard output.
+#![tactic(auto)]
+
 use intake_bytes::intake;
 use std::io;
 use std::io::{Read, Write};

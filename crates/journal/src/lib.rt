@@ -1,4 +1,6 @@
 // Journals: an archive as bytes, to be exchanged between benches.
+#![tactic(auto)]
+
 mod fault;
 mod loading;
 mod numbers;

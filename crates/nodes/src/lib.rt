@@ -1,4 +1,6 @@
 // The nodes of versions in a table, and the walks over it. A walk takes time in proportion to its path and the rows of the leaves it writes.
+#![tactic(auto)]
+
 mod change;
 mod edits;
 mod insert;

@@ -1,4 +1,6 @@
 // Piles of layers over the stores, and the stores and layers at their limits.
+#![tactic(auto)]
+
 ghost use Rattle.piles.specs.Piles.{Piled};
 
 use store::BlockStore;

@@ -1,4 +1,6 @@
 // The questions that one version's tree answers, by walks over the table that write nothing. Every walk ends on any table.
+#![tactic(auto)]
+
 ghost use Rattle.questions.specs.Finding.{Finds, Reads};
 ghost use Rattle.questions.specs.Paths.{PathCounted, PathsCounted};
 ghost use Rattle.questions.specs.Spans.{Spanned};

@@ -1,5 +1,7 @@
 // What a sensor's reading is: a trait for any kind of reading, and the two kinds that the bench has, counts and single floats.
 // Every call here takes a fixed number of steps.
+#![tactic(auto)]
+
 ghost use Rattle.std.specs.Prelude.{◌≡◌, ℕ, Bool, List, length, ℤ, Decides};
 ghost use Rattle.reading.specs.Bytes.{Written};
 ghost use Rattle.reading.specs.Kinds.{Decoded};

@@ -1,4 +1,6 @@
 // Reports a journal of counts from standard input, of which the first 32,768 bytes are read.
+#![tactic(auto)]
+
 ghost use Rattle.std.specs.Prelude.{◌≤◌, length, IfOk};
 
 use report_text::report;

@@ -1,4 +1,6 @@
 // The report of a journal of counts: a line for each version of the archive that it gives, and one for the fault that stopped loading.
+#![tactic(auto)]
+
 ghost use Rattle.std.specs.Prelude.{IfOk, string_bytes};
 ghost use Rattle.report_text.specs.Report.{Reported};
 

@@ -1,5 +1,7 @@
 // The law over runs: what any calls on an archive answer and leave, one after another, and the call that carries out a list of them. Carrying out a
 // list takes the time of its calls.
+#![tactic(auto)]
+
 ghost use Rattle.std.specs.Prelude.{◌≡◌, min, map, length, take, drop};
 ghost use Rattle.archive.specs.Calling.{archive_of};
 ghost use Rattle.runs.specs.Calls.{wanted, Chain};

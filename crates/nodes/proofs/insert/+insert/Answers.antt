@@ -6,26 +6,26 @@ use Rattle.nodes.proofs.insert.+insert.Goals as goal
 
 pub returns-then-upto-own : goal.returns-then-upto-own
 returns-then-upto-own g t c = record {
-  grown = grown_then c.write-leaf-leaf-then-upto-own.ensures.grown c.write-leaf-next-then-upto-own.ensures.grown;
-  inserted = insert_stop g.Q.Summary.means _ _ _ c.in-Followed.ensures c.min-own.ensures c.if-upto-own.true (omega arith) c.write-leaf-leaf-then-upto-own.ensures c.write-leaf-leaf-then-upto-own.auto.nodes c.write-leaf-next-then-upto-own.ensures;
+  grown = grown_then c.write_leaf-leaf-then-upto-own.ensures.grown c.write_leaf-next-then-upto-own.ensures.grown;
+  inserted = insert_stop g.Q.Summary.means _ _ _ c.in-Followed.ensures c.min-own.ensures c.if-upto-own.true (omega arith) c.write_leaf-leaf-then-upto-own.ensures c.write_leaf-leaf-then-upto-own.auto.nodes c.write_leaf-next-then-upto-own.ensures;
 }
 
-pub returns-then-cuts-before : goal.returns-then-cuts-before
-returns-then-cuts-before g t c = record {
-  grown = c.cut-then-cuts-before.ensures.grown;
-  inserted = insert_cut_below g.Q.Summary.means _ _ _ c.in-Forked.ensures c.blocks-in-count.ensures c.if-upto-count.true (leb-true _ _ (sym c.if-cuts-before.ensures)) c.cut-then-cuts-before.ensures.made;
+pub returns-then-cuts_before : goal.returns-then-cuts_before
+returns-then-cuts_before g t c = record {
+  grown = c.cut-then-cuts_before.ensures.grown;
+  inserted = insert_cut_below g.Q.Summary.means _ _ _ c.in-Forked.ensures c.blocks_in-count.ensures c.if-upto-count.true (leb-true _ _ (sym c.if-cuts_before.ensures)) c.cut-then-cuts_before.ensures.made;
 }
 
 pub returns-then-upto-count : goal.returns-then-upto-count
 returns-then-upto-count g t c = record {
-  grown = grown_then c.insert-part.ensures.grown c.write-fork-next.ensures.grown;
-  inserted = insert_below g.Q.Summary.means _ _ _ c.in-Forked.ensures c.blocks-in-count.ensures c.if-upto-count.true (leb-false _ _ (sym c.if-cuts-before.ensures)) c.insert-part.ensures.grown c.insert-part.ensures.inserted c.insert-part.auto.nodes c.write-fork-next.ensures;
+  grown = grown_then c.insert-part.ensures.grown c.write_fork-next.ensures.grown;
+  inserted = insert_below g.Q.Summary.means _ _ _ c.in-Forked.ensures c.blocks_in-count.ensures c.if-upto-count.true (leb-false _ _ (sym c.if-cuts_before.ensures)) c.insert-part.ensures.grown c.insert-part.ensures.inserted c.insert-part.auto.nodes c.write_fork-next.ensures;
 }
 
-pub returns-then-cuts-after : goal.returns-then-cuts-after
-returns-then-cuts-after g t c = record {
-  grown = c.cut-then-cuts-after.ensures.grown;
-  inserted = insert_cut_after g.Q.Summary.means _ _ _ c.in-Forked.ensures c.blocks-in-count.ensures (omega arith) (ltb-true _ _ (sym c.if-cuts-after.ensures)) c.cut-then-cuts-after.ensures.made;
+pub returns-then-cuts_after : goal.returns-then-cuts_after
+returns-then-cuts_after g t c = record {
+  grown = c.cut-then-cuts_after.ensures.grown;
+  inserted = insert_cut_after g.Q.Summary.means _ _ _ c.in-Forked.ensures c.blocks_in-count.ensures (omega arith) (ltb-true _ _ (sym c.if-cuts_after.ensures)) c.cut-then-cuts_after.ensures.made;
 }
 
 pub returns-in-Nothing : goal.returns-in-Nothing
@@ -42,8 +42,8 @@ returns-in-Last g t c = record {
 
 pub returns-in-Last-2 : goal.returns-in-Last-2
 returns-in-Last-2 g t c = record {
-  grown = grown_then c.write-leaf-leaf.ensures.grown c.write-leaf-next.ensures.grown;
-  inserted = insert_last g.Q.Summary.means _ _ _ c.in-Last.ensures (omega arith) c.write-leaf-leaf.ensures c.write-leaf-leaf.auto.nodes c.write-leaf-next.ensures;
+  grown = grown_then c.write_leaf-leaf.ensures.grown c.write_leaf-next.ensures.grown;
+  inserted = insert_last g.Q.Summary.means _ _ _ c.in-Last.ensures (omega arith) c.write_leaf-leaf.ensures c.write_leaf-leaf.auto.nodes c.write_leaf-next.ensures;
 }
 
 pub returns-in-Followed : goal.returns-in-Followed
@@ -54,12 +54,12 @@ returns-in-Followed g t c = record {
 
 pub returns-else-upto-own : goal.returns-else-upto-own
 returns-else-upto-own g t c = record {
-  grown = grown_then c.insert-rest.ensures.grown c.write-leaf-next-in-Followed-2.ensures.grown;
-  inserted = insert_on g.Q.Summary.means _ _ _ c.in-Followed.ensures c.min-own.ensures (omega arith) (omega arith) c.insert-rest.ensures.inserted c.insert-rest.auto.nodes c.write-leaf-next-in-Followed-2.ensures;
+  grown = grown_then c.insert-rest.ensures.grown c.write_leaf-next-in-Followed-2.ensures.grown;
+  inserted = insert_on g.Q.Summary.means _ _ _ c.in-Followed.ensures c.min-own.ensures (omega arith) (omega arith) c.insert-rest.ensures.inserted c.insert-rest.auto.nodes c.write_leaf-next-in-Followed-2.ensures;
 }
 
-pub returns-else-cuts-after : goal.returns-else-cuts-after
-returns-else-cuts-after g t c = record {
-  grown = grown_then c.insert-part-in-Forked.ensures.grown c.write-fork-next-in-Forked.ensures.grown;
-  inserted = insert_after g.Q.Summary.means _ _ _ c.in-Forked.ensures c.blocks-in-count.ensures (omega arith) (ltb-false _ _ (sym c.if-cuts-after.ensures)) c.insert-part-in-Forked.ensures.grown c.insert-part-in-Forked.ensures.inserted c.insert-part-in-Forked.auto.nodes c.write-fork-next-in-Forked.ensures;
+pub returns-else-cuts_after : goal.returns-else-cuts_after
+returns-else-cuts_after g t c = record {
+  grown = grown_then c.insert-part-in-Forked.ensures.grown c.write_fork-next-in-Forked.ensures.grown;
+  inserted = insert_after g.Q.Summary.means _ _ _ c.in-Forked.ensures c.blocks_in-count.ensures (omega arith) (ltb-false _ _ (sym c.if-cuts_after.ensures)) c.insert-part-in-Forked.ensures.grown c.insert-part-in-Forked.ensures.inserted c.insert-part-in-Forked.auto.nodes c.write_fork-next-in-Forked.ensures;
 }

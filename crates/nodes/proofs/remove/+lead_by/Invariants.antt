@@ -1,4 +1,4 @@
 use Rattle.nodes.proofs.remove.+lead_by.Given as goal
 
-abbrev pub decreases-lead-by : goal.decreases-lead-by
-decreases-lead-by g l = l.at
+abbrev pub decreases-lead_by : goal.decreases-lead_by
+decreases-lead_by g l = l.at

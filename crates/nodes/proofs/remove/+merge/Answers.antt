@@ -15,36 +15,36 @@ returns-in-Nothing-one g t c = record { grown = grown_none _ _; merged = merge_n
 
 pub returns-in-Last-one : goal.returns-in-Last-one
 returns-in-Last-one g t c = record {
-  grown = c.write-leaf.ensures.grown;
-  merged = merge_last g.Q.Summary.means _ _ c.in-Followed.ensures c.in-Last-one.ensures c.write-leaf.ensures;
+  grown = c.write_leaf.ensures.grown;
+  merged = merge_last g.Q.Summary.means _ _ c.in-Followed.ensures c.in-Last-one.ensures c.write_leaf.ensures;
 }
 
 pub returns-in-Followed-one : goal.returns-in-Followed-one
 returns-in-Followed-one g t c = record {
-  grown = grown_then c.merge-part.ensures.grown c.write-leaf-next.ensures.grown;
-  merged = merge_leaf g.Q.Summary.means _ _ c.in-Followed.ensures c.in-Followed-one.ensures c.merge-part.ensures.merged c.merge-part.auto.nodes c.write-leaf-next.ensures;
+  grown = grown_then c.merge-part.ensures.grown c.write_leaf-next.ensures.grown;
+  merged = merge_leaf g.Q.Summary.means _ _ c.in-Followed.ensures c.in-Followed-one.ensures c.merge-part.ensures.merged c.merge-part.auto.nodes c.write_leaf-next.ensures;
 }
 
 pub returns-in-Forked-one : goal.returns-in-Forked-one
 returns-in-Forked-one g t c = record {
-  grown = grown_then c.merge-part-in-Forked-one.ensures.grown c.write-fork-next.ensures.grown;
-  merged = merge_fork g.Q.Summary.means _ _ c.in-Followed.ensures c.in-Forked-one.ensures c.merge-part-in-Forked-one.ensures.grown c.merge-part-in-Forked-one.ensures.merged c.merge-part-in-Forked-one.auto.nodes c.write-fork-next.ensures;
+  grown = grown_then c.merge-part-in-Forked-one.ensures.grown c.write_fork-next.ensures.grown;
+  merged = merge_fork g.Q.Summary.means _ _ c.in-Followed.ensures c.in-Forked-one.ensures c.merge-part-in-Forked-one.ensures.grown c.merge-part-in-Forked-one.ensures.merged c.merge-part-in-Forked-one.auto.nodes c.write_fork-next.ensures;
 }
 
-pub returns-then-second-over : goal.returns-then-second-over
-returns-then-second-over g t c = record {
-  grown = grown_then c.merge-part-then-second-over.ensures.grown c.write-fork-next-then-second-over.ensures.grown;
-  merged = merge_under g.Q.Summary.means _ _ c.in-Forked.ensures (λ m i o see. level_below c.in-Forked-one-2.ensures (ltb-true _ _ (sym c.if-second-over.ensures)) see) c.merge-part-then-second-over.ensures.grown c.merge-part-then-second-over.ensures.merged c.merge-part-then-second-over.auto.nodes c.write-fork-next-then-second-over.ensures;
+pub returns-then-second_over : goal.returns-then-second_over
+returns-then-second_over g t c = record {
+  grown = grown_then c.merge-part-then-second_over.ensures.grown c.write_fork-next-then-second_over.ensures.grown;
+  merged = merge_under g.Q.Summary.means _ _ c.in-Forked.ensures (λ m i o see. level_below c.in-Forked-one-2.ensures (ltb-true _ _ (sym c.if-second_over.ensures)) see) c.merge-part-then-second_over.ensures.grown c.merge-part-then-second_over.ensures.merged c.merge-part-then-second_over.auto.nodes c.write_fork-next-then-second_over.ensures;
 }
 
-pub returns-else-second-over : goal.returns-else-second-over
-returns-else-second-over g t c = record {
-  grown = grown_then c.merge-part-in-Forked-one-2.ensures.grown c.write-fork-next-in-Forked-one-2.ensures.grown;
-  merged = merge_past g.Q.Summary.means _ _ c.in-Forked.ensures c.in-Forked-one-2.ensures (ltb-false _ _ (sym c.if-second-over.ensures)) c.merge-part-in-Forked-one-2.ensures.grown c.merge-part-in-Forked-one-2.ensures.merged c.merge-part-in-Forked-one-2.auto.nodes c.write-fork-next-in-Forked-one-2.ensures;
+pub returns-else-second_over : goal.returns-else-second_over
+returns-else-second_over g t c = record {
+  grown = grown_then c.merge-part-in-Forked-one-2.ensures.grown c.write_fork-next-in-Forked-one-2.ensures.grown;
+  merged = merge_past g.Q.Summary.means _ _ c.in-Forked.ensures c.in-Forked-one-2.ensures (ltb-false _ _ (sym c.if-second_over.ensures)) c.merge-part-in-Forked-one-2.ensures.grown c.merge-part-in-Forked-one-2.ensures.merged c.merge-part-in-Forked-one-2.auto.nodes c.write_fork-next-in-Forked-one-2.ensures;
 }
 
-pub returns-in-default : goal.returns-in-default
-returns-in-default g t c = record {
-  grown = grown_then c.merge-part-in-default.ensures.grown c.write-fork-next-in-default.ensures.grown;
-  merged = merge_under g.Q.Summary.means _ _ c.in-Forked.ensures (λ m i o see. absurd (c.in-default.not-Forked m i o (c.view-one.ensures ∙ sym see))) c.merge-part-in-default.ensures.grown c.merge-part-in-default.ensures.merged c.merge-part-in-default.auto.nodes c.write-fork-next-in-default.ensures;
+pub returns-in_default : goal.returns-in_default
+returns-in_default g t c = record {
+  grown = grown_then c.merge-part-in_default.ensures.grown c.write_fork-next-in_default.ensures.grown;
+  merged = merge_under g.Q.Summary.means _ _ c.in-Forked.ensures (λ m i o see. absurd (c.in_default.not-Forked m i o (c.view-one.ensures ∙ sym see))) c.merge-part-in_default.ensures.grown c.merge-part-in_default.ensures.merged c.merge-part-in_default.auto.nodes c.write_fork-next-in_default.ensures;
 }

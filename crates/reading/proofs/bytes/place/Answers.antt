@@ -10,4 +10,4 @@ part_over k e xs ys zs p q =
     rw (p, width) (ap (λ (l : List ℕ). take k xs ++ (zs ++ l)) (drop-drop (length zs) k xs))
 
 pub returns : goal.returns
-returns c = (omega (arith, c.in-Some.ensures), part_over _ _ _ _ _ c.copy-from-slice.ensures.after c.in-Some.ensures.1)
+returns c = (omega (arith, c.in-Some.ensures), part_over _ _ _ _ _ c.copy_from_slice.ensures.after c.in-Some.ensures.1)
