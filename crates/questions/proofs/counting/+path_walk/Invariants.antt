@@ -1,4 +1,4 @@
 use Rattle.questions.proofs.counting.+path_walk.Given as goal
 
-abbrev pub decreases-path-walk : goal.decreases-path-walk
-decreases-path-walk g l = l.at
+abbrev pub decreases-path_walk : goal.decreases-path_walk
+decreases-path_walk g l = l.at

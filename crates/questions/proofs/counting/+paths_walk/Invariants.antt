@@ -1,4 +1,4 @@
 use Rattle.questions.proofs.counting.+paths_walk.Given as goal
 
-abbrev pub decreases-paths-walk : goal.decreases-paths-walk
-decreases-paths-walk g l = l.at
+abbrev pub decreases-paths_walk : goal.decreases-paths_walk
+decreases-paths_walk g l = l.at

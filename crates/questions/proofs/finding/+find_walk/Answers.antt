@@ -8,7 +8,7 @@ pub returns-then-position-length-2 : goal.returns-then-position-length-2
 returns-then-position-length-2 g t c = find_here _ _ _ _ _ _ _ c.in-Followed.ensures c.if-position-length-2.true
 
 pub returns-then-position-left : goal.returns-then-position-left
-returns-then-position-left g t c = find_below _ _ _ _ _ _ _ _ _ _ c.in-Forked.ensures c.readings-in-left.ensures c.if-position-left.true c.find-walk-then-position-left.ensures c.farther-then-position-left.ensures
+returns-then-position-left g t c = find_below _ _ _ _ _ _ _ _ _ _ c.in-Forked.ensures c.readings_in-left.ensures c.if-position-left.true c.find_walk-then-position-left.ensures c.farther-then-position-left.ensures
 
 pub returns-in-Nothing : goal.returns-in-Nothing
 returns-in-Nothing g t c = find_nothing _ _ _ _ c.in-Nothing.ensures
@@ -17,7 +17,7 @@ pub returns-else-position-length : goal.returns-else-position-length
 returns-else-position-length g t c = find_past _ _ _ _ _ _ c.in-Last.ensures c.if-position-length.false
 
 pub returns-else-position-length-2 : goal.returns-else-position-length-2
-returns-else-position-length-2 g t c = find_on _ _ _ _ _ _ _ _ _ c.in-Followed.ensures c.if-position-length-2.false c.find-walk.ensures c.farther.ensures
+returns-else-position-length-2 g t c = find_on _ _ _ _ _ _ _ _ _ c.in-Followed.ensures c.if-position-length-2.false c.find_walk.ensures c.farther.ensures
 
 pub returns-else-position-left : goal.returns-else-position-left
-returns-else-position-left g t c = find_after _ _ _ _ _ _ _ _ _ _ c.in-Forked.ensures c.readings-in-left.ensures c.if-position-left.false c.find-walk-in-Forked.ensures c.farther-in-Forked.ensures
+returns-else-position-left g t c = find_after _ _ _ _ _ _ _ _ _ _ c.in-Forked.ensures c.readings_in-left.ensures c.if-position-left.false c.find_walk-in-Forked.ensures c.farther-in-Forked.ensures

@@ -1,4 +1,4 @@
 use Rattle.questions.proofs.finding.+find_walk.Given as goal
 
-abbrev pub decreases-find-walk : goal.decreases-find-walk
-decreases-find-walk g l = l.at
+abbrev pub decreases-find_walk : goal.decreases-find_walk
+decreases-find_walk g l = l.at
