@@ -2,10 +2,10 @@ use Rattle.std.proofs.Common.{sym, refl}
 use Rattle.archive.proofs.Asks.{unused, version_refused, reading_past, reading_lost, reading_there}
 use Rattle.archive.proofs.ask.reading_in.Goals as goal
 
-pub returns-in-default : goal.returns-in-default
-returns-in-default g c = record {
+pub returns-in_default : goal.returns-in_default
+returns-in_default g c = record {
   none = λ z. refl;
-  law = λ es used st. sym (version_refused g.Q.Summary.means g.S.BlockStore.rows _ c.args.store.now es st c.args.version _ _ (sym c.in-default.ensures));
+  law = λ es used st. sym (version_refused g.Q.Summary.means g.S.BlockStore.rows _ c.args.store.now es st c.args.version _ _ (sym c.in_default.ensures));
 }
 
 pub returns-then-from-position : goal.returns-then-from-position

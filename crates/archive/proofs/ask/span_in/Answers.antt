@@ -4,14 +4,14 @@ use Rattle.archive.proofs.Asks.{unused}
 use Rattle.archive.proofs.Stretches.{stretch_unknown, stretch_outside, start_length, rest_kept, span_refused, span_short, span_there}
 use Rattle.archive.proofs.ask.span_in.Goals as goal
 
-pub returns-in-default : goal.returns-in-default
-returns-in-default g c = record {
+pub returns-in_default : goal.returns-in_default
+returns-in_default g c = record {
   none = λ z. refl;
   left = refl;
   law = λ es used st.
       span_refused es c.args.version c.args.a c.args.b c.args.out.now unread.Version
       (stretch_unknown g.Q.Summary.means g.S.BlockStore.rows _ c.args.store.now es st c.args.version c.args.a c.args.b
-      (cond (ltb (length c.args.out.now) (c.args.b - c.args.a)) (Some unread.Output) None) (sym c.in-default.ensures));
+      (cond (ltb (length c.args.out.now) (c.args.b - c.args.a)) (Some unread.Output) None) (sym c.in_default.ensures));
 }
 
 pub returns-then-outside : goal.returns-then-outside

@@ -4,12 +4,12 @@ use Rattle.archive.proofs.Asks.{unused}
 use Rattle.archive.proofs.Stretches.{stretch_unknown, stretch_outside, summary_refused, summary_there}
 use Rattle.archive.proofs.ask.summary_in.Goals as goal
 
-pub returns-in-default : goal.returns-in-default
-returns-in-default g c = record {
+pub returns-in_default : goal.returns-in_default
+returns-in_default g c = record {
   none = λ z. refl;
   law = λ es used st.
       summary_refused g.Q.Summary.means es c.args.version c.args.a c.args.b unread.Version
-      (stretch_unknown g.Q.Summary.means g.S.BlockStore.rows _ c.args.store.now es st c.args.version c.args.a c.args.b None (sym c.in-default.ensures));
+      (stretch_unknown g.Q.Summary.means g.S.BlockStore.rows _ c.args.store.now es st c.args.version c.args.a c.args.b None (sym c.in_default.ensures));
 }
 
 pub returns-then-outside : goal.returns-then-outside

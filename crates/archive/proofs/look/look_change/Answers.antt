@@ -5,8 +5,8 @@ use Rattle.archive.proofs.Looks.{change_unknown, change_misplaced, insert_lost, 
 use Rattle.archive.proofs.Tried.{all_passed}
 use Rattle.archive.proofs.look.look_change.Goals as goal
 
-pub returns-in-default : goal.returns-in-default
-returns-in-default g c = record { looked = λ es st. change_unknown g.Q.Summary.means _ es st c.args.base c.args.place c.args.len (sym c.in-default.ensures); sized = tt; placed = tt; room = tt }
+pub returns-in_default : goal.returns-in_default
+returns-in_default g c = record { looked = λ es st. change_unknown g.Q.Summary.means _ es st c.args.base c.args.place c.args.len (sym c.in_default.ensures); sized = tt; placed = tt; room = tt }
 
 pub returns-then-from-place : goal.returns-then-from-place
 returns-then-from-place g c = record {
@@ -16,21 +16,21 @@ returns-then-from-place g c = record {
   room = tt;
 }
 
-pub returns-in-default-path : goal.returns-in-default-path
-returns-in-default-path g c = record {
-  looked = λ es st. absurd (insert_lost g.Q.Summary.means _ es st c.args.base (c.args.place + 1) c.in-Some.from (sym c.in-Some.ensures) (omega arith) c.in-default-path.ensures);
+pub returns-in_default-path : goal.returns-in_default-path
+returns-in_default-path g c = record {
+  looked = λ es st. absurd (insert_lost g.Q.Summary.means _ es st c.args.base (c.args.place + 1) c.in-Some.from (sym c.in-Some.ensures) (omega arith) c.in_default-path.ensures);
   sized = tt;
   placed = tt;
   room = tt;
 }
 
-pub returns-in-Some-later-fault : goal.returns-in-Some-later-fault
-returns-in-Some-later-fault g c = record {
+pub returns-in-Some-later_fault : goal.returns-in-Some-later_fault
+returns-in-Some-later_fault g c = record {
   looked = λ es st.
-      let tried = sym (c.in-Some-later-fault.ensures ∙ ap (λ b. later_fault 0 c.args.len false b c.free-nodes-free.result c.in-Some-path.way) c.is-full.ensures
-      ∙ ap (λ n. later_fault 0 c.args.len false (leb (min 4096 (length c.args.versions.now)) c.args.count) n c.in-Some-path.way) c.free-nodes-free.ensures) in
+      let tried = sym (c.in-Some-later_fault.ensures ∙ ap (λ b. later_fault 0 c.args.len false b c.free_nodes-free.result c.in-Some-path.way) c.is_full.ensures
+      ∙ ap (λ n. later_fault 0 c.args.len false (leb (min 4096 (length c.args.versions.now)) c.args.count) n c.in-Some-path.way) c.free_nodes-free.ensures) in
       let way : PathCounted g.Q.Summary.means c.args.nodes.now c.in-Some.from.root (suc c.args.place) (Some c.in-Some-path.way) = rw (add-one c.args.place) at c.in-Some-path.ensures in
-      change_refused g.Q.Summary.means _ es st c.args.base c.args.place c.args.len c.in-Some.from (sym c.in-Some.ensures) c.if-from-place.false c.in-Some-path.way way c.in-Some-later-fault.fault tried;
+      change_refused g.Q.Summary.means _ es st c.args.base c.args.place c.args.len c.in-Some.from (sym c.in-Some.ensures) c.if-from-place.false c.in-Some-path.way way c.in-Some-later_fault.fault tried;
   sized = tt;
   placed = tt;
   room = tt;
@@ -38,8 +38,8 @@ returns-in-Some-later-fault g c = record {
 
 pub returns-in-None : goal.returns-in-None
 returns-in-None g c =
-    let tried = sym (c.in-None.ensures ∙ ap (λ b. later_fault 0 c.args.len false b c.free-nodes-free.result c.in-Some-path.way) c.is-full.ensures
-    ∙ ap (λ n. later_fault 0 c.args.len false (leb (min 4096 (length c.args.versions.now)) c.args.count) n c.in-Some-path.way) c.free-nodes-free.ensures) in
+    let tried = sym (c.in-None.ensures ∙ ap (λ b. later_fault 0 c.args.len false b c.free_nodes-free.result c.in-Some-path.way) c.is_full.ensures
+    ∙ ap (λ n. later_fault 0 c.args.len false (leb (min 4096 (length c.args.versions.now)) c.args.count) n c.in-Some-path.way) c.free_nodes-free.ensures) in
     let way : PathCounted g.Q.Summary.means c.args.nodes.now c.in-Some.from.root (suc c.args.place) (Some c.in-Some-path.way) = rw (add-one c.args.place) at c.in-Some-path.ensures in
     let p = all_passed 0 c.args.len false _ _ c.in-Some-path.way tried in
     let low = leb-false (min 4096 (length c.args.versions.now)) c.args.count p.open_table in

@@ -4,9 +4,9 @@ use Rattle.archive.proofs.Looks.{insert_unknown, insert_misplaced, insert_lost, 
 use Rattle.archive.proofs.Tried.{all_passed}
 use Rattle.archive.proofs.look.look_insert.Goals as goal
 
-pub returns-in-default : goal.returns-in-default
-returns-in-default g c = record {
-  looked = λ es st. insert_unknown g.Q.Summary.means _ es st c.args.base c.args.place c.args.level c.args.len (sym c.in-default.ensures);
+pub returns-in_default : goal.returns-in_default
+returns-in_default g c = record {
+  looked = λ es st. insert_unknown g.Q.Summary.means _ es st c.args.base c.args.place c.args.level c.args.len (sym c.in_default.ensures);
   sized = tt;
   room = tt;
 }
@@ -18,27 +18,27 @@ returns-then-from-place g c = record {
   room = tt;
 }
 
-pub returns-in-default-path : goal.returns-in-default-path
-returns-in-default-path g c = record {
-  looked = λ es st. absurd (insert_lost g.Q.Summary.means _ es st c.args.base c.args.place c.in-Some.from (sym c.in-Some.ensures) c.if-from-place.false c.in-default-path.ensures);
+pub returns-in_default-path : goal.returns-in_default-path
+returns-in_default-path g c = record {
+  looked = λ es st. absurd (insert_lost g.Q.Summary.means _ es st c.args.base c.args.place c.in-Some.from (sym c.in-Some.ensures) c.if-from-place.false c.in_default-path.ensures);
   sized = tt;
   room = tt;
 }
 
-pub returns-in-Some-later-fault : goal.returns-in-Some-later-fault
-returns-in-Some-later-fault g c = record {
+pub returns-in-Some-later_fault : goal.returns-in-Some-later_fault
+returns-in-Some-later_fault g c = record {
   looked = λ es st.
-      let tried = sym (c.in-Some-later-fault.ensures ∙ ap (λ b. later_fault c.args.level c.args.len (leb 500 c.in-Some.from.blocks) b c.free-nodes-free.result (c.in-Some-path.way + 2)) c.is-full.ensures
-      ∙ ap (λ n. later_fault c.args.level c.args.len (leb 500 c.in-Some.from.blocks) (leb (min 4096 (length c.args.versions.now)) c.args.count) n (c.in-Some-path.way + 2)) c.free-nodes-free.ensures) in
-      insert_refused g.Q.Summary.means _ es st c.args.base c.args.place c.args.level c.args.len c.in-Some.from (sym c.in-Some.ensures) c.if-from-place.false c.in-Some-path.way c.in-Some-path.ensures c.in-Some-later-fault.fault tried;
+      let tried = sym (c.in-Some-later_fault.ensures ∙ ap (λ b. later_fault c.args.level c.args.len (leb 500 c.in-Some.from.blocks) b c.free_nodes-free.result (c.in-Some-path.way + 2)) c.is_full.ensures
+      ∙ ap (λ n. later_fault c.args.level c.args.len (leb 500 c.in-Some.from.blocks) (leb (min 4096 (length c.args.versions.now)) c.args.count) n (c.in-Some-path.way + 2)) c.free_nodes-free.ensures) in
+      insert_refused g.Q.Summary.means _ es st c.args.base c.args.place c.args.level c.args.len c.in-Some.from (sym c.in-Some.ensures) c.if-from-place.false c.in-Some-path.way c.in-Some-path.ensures c.in-Some-later_fault.fault tried;
   sized = tt;
   room = tt;
 }
 
 pub returns-in-None : goal.returns-in-None
 returns-in-None g c =
-    let tried = sym (c.in-None.ensures ∙ ap (λ b. later_fault c.args.level c.args.len (leb 500 c.in-Some.from.blocks) b c.free-nodes-free.result (c.in-Some-path.way + 2)) c.is-full.ensures
-    ∙ ap (λ n. later_fault c.args.level c.args.len (leb 500 c.in-Some.from.blocks) (leb (min 4096 (length c.args.versions.now)) c.args.count) n (c.in-Some-path.way + 2)) c.free-nodes-free.ensures) in
+    let tried = sym (c.in-None.ensures ∙ ap (λ b. later_fault c.args.level c.args.len (leb 500 c.in-Some.from.blocks) b c.free_nodes-free.result (c.in-Some-path.way + 2)) c.is_full.ensures
+    ∙ ap (λ n. later_fault c.args.level c.args.len (leb 500 c.in-Some.from.blocks) (leb (min 4096 (length c.args.versions.now)) c.args.count) n (c.in-Some-path.way + 2)) c.free_nodes-free.ensures) in
     let p = all_passed _ _ _ _ _ _ tried in
     let low = leb-false (min 4096 (length c.args.versions.now)) c.args.count p.open_table in
     record {

@@ -11,7 +11,7 @@ returns-in-None g c = record {
 
 pub returns-in-Some : goal.returns-in-Some
 returns-in-Some g c = record {
-  kept = append_kept g.Q.Summary.means g.S.BlockStore.rows g.S.BlockStore.refuses _ _ c.args.base c.args.row.now c.in-Some.from.blocks c.insert-row.result c.insert-row.ensures.kept;
-  law = append_law g.Q.Summary.means g.S.BlockStore.rows g.S.BlockStore.refuses _ _ c.args.base c.args.row.now c.in-Some.from c.insert-row.result (sym c.in-Some.ensures) c.insert-row.ensures.law;
-  lender = c.insert-row.ensures.lender;
+  kept = append_kept g.Q.Summary.means g.S.BlockStore.rows g.S.BlockStore.refuses _ _ c.args.base c.args.row.now c.in-Some.from.blocks c.insert_row.result c.insert_row.ensures.kept;
+  law = append_law g.Q.Summary.means g.S.BlockStore.rows g.S.BlockStore.refuses _ _ c.args.base c.args.row.now c.in-Some.from c.insert_row.result (sym c.in-Some.ensures) c.insert_row.ensures.law;
+  lender = c.insert_row.ensures.lender;
 }

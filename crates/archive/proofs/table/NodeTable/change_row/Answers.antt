@@ -15,9 +15,9 @@ returns-in-Err g c =
 
 pub returns-in-Ok : goal.returns-in-Ok
 returns-in-Ok g c =
-    let same = same_archive c.take-in.new.self.nodes.now c.change-in.new.nodes c.take-in.new.self.used c.in-Ok.built.used c.change-in.new.versions c.change-in.new.versions c.take-in.new.self.count _ c.change-in.new.store c.change-in.new.store (ap (λ x. x.now) c.take-in.ensures.nodes) c.take-in.ensures.used refl c.take-in.ensures.count refl in
-    rw (c.take-in.ensures.answer, same) (record {
-      kept = change_done g.Q.Summary.means g.S.BlockStore.rows g.S.BlockStore.refuses _ _ c.change-in.auto.nodes _ _ c.args.row.now c.in-Ok.built c.in-Ok.ensures.left c.args.base c.args.place;
-      law = change_ok g.Q.Summary.means g.S.BlockStore.rows g.S.BlockStore.refuses _ _ c.change-in.auto.nodes _ _ c.args.row.now c.in-Ok.built c.in-Ok.ensures.left c.args.base c.args.place c.in-Ok.ensures.law c.if-count-base.false;
-      lender = ap (λ x. x.ghost_name) c.take-in.ensures.nodes;
+    let same = same_archive c.take_in.new.self.nodes.now c.change_in.new.nodes c.take_in.new.self.used c.in-Ok.built.used c.change_in.new.versions c.change_in.new.versions c.take_in.new.self.count _ c.change_in.new.store c.change_in.new.store (ap (λ x. x.now) c.take_in.ensures.nodes) c.take_in.ensures.used refl c.take_in.ensures.count refl in
+    rw (c.take_in.ensures.answer, same) (record {
+      kept = change_done g.Q.Summary.means g.S.BlockStore.rows g.S.BlockStore.refuses _ _ c.change_in.auto.nodes _ _ c.args.row.now c.in-Ok.built c.in-Ok.ensures.left c.args.base c.args.place;
+      law = change_ok g.Q.Summary.means g.S.BlockStore.rows g.S.BlockStore.refuses _ _ c.change_in.auto.nodes _ _ c.args.row.now c.in-Ok.built c.in-Ok.ensures.left c.args.base c.args.place c.in-Ok.ensures.law c.if-count-base.false;
+      lender = ap (λ x. x.ghost_name) c.take_in.ensures.nodes;
     })

@@ -15,9 +15,9 @@ returns-in-Err g c =
 
 pub returns-in-Ok : goal.returns-in-Ok
 returns-in-Ok g c =
-    let same = same_archive c.take-in.new.self.nodes.now c.insert-in.new.nodes c.take-in.new.self.used c.in-Ok.built.used c.insert-in.new.versions c.insert-in.new.versions c.take-in.new.self.count _ c.insert-in.new.store c.insert-in.new.store (ap (λ x. x.now) c.take-in.ensures.nodes) c.take-in.ensures.used refl c.take-in.ensures.count refl in
-    rw (c.take-in.ensures.answer, same) (record {
-      kept = insert_done g.Q.Summary.means g.S.BlockStore.rows g.S.BlockStore.refuses _ _ c.insert-in.auto.nodes _ _ c.args.row.now c.in-Ok.built c.in-Ok.ensures.left c.args.base c.args.place c.args.level;
-      law = insert_ok g.Q.Summary.means g.S.BlockStore.rows g.S.BlockStore.refuses _ _ c.insert-in.auto.nodes _ _ c.args.row.now c.in-Ok.built c.in-Ok.ensures.left c.args.base c.args.place c.args.level c.in-Ok.ensures.law c.if-count-base.false;
-      lender = ap (λ x. x.ghost_name) c.take-in.ensures.nodes;
+    let same = same_archive c.take_in.new.self.nodes.now c.insert_in.new.nodes c.take_in.new.self.used c.in-Ok.built.used c.insert_in.new.versions c.insert_in.new.versions c.take_in.new.self.count _ c.insert_in.new.store c.insert_in.new.store (ap (λ x. x.now) c.take_in.ensures.nodes) c.take_in.ensures.used refl c.take_in.ensures.count refl in
+    rw (c.take_in.ensures.answer, same) (record {
+      kept = insert_done g.Q.Summary.means g.S.BlockStore.rows g.S.BlockStore.refuses _ _ c.insert_in.auto.nodes _ _ c.args.row.now c.in-Ok.built c.in-Ok.ensures.left c.args.base c.args.place c.args.level;
+      law = insert_ok g.Q.Summary.means g.S.BlockStore.rows g.S.BlockStore.refuses _ _ c.insert_in.auto.nodes _ _ c.args.row.now c.in-Ok.built c.in-Ok.ensures.left c.args.base c.args.place c.args.level c.in-Ok.ensures.law c.if-count-base.false;
+      lender = ap (λ x. x.ghost_name) c.take_in.ensures.nodes;
     })

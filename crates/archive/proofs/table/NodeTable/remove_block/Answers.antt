@@ -13,9 +13,9 @@ returns-in-Err g c =
 
 pub returns-in-Ok : goal.returns-in-Ok
 returns-in-Ok g c =
-    let same = same_archive c.take-in.new.self.nodes.now c.removal-in.new.nodes c.take-in.new.self.used c.in-Ok.built.used c.removal-in.new.versions c.removal-in.new.versions c.take-in.new.self.count _ c.args.store.now c.args.store.now (ap (λ x. x.now) c.take-in.ensures.nodes) c.take-in.ensures.used refl c.take-in.ensures.count refl in
-    rw (c.take-in.ensures.answer, same) (record {
-      kept = removal_done g.Q.Summary.means g.S.BlockStore.rows g.S.BlockStore.refuses _ _ c.removal-in.auto.nodes _ c.args.store.now c.in-Ok.built c.in-Ok.ensures.left c.args.base c.args.place;
-      law = removal_ok g.Q.Summary.means g.S.BlockStore.rows g.S.BlockStore.refuses _ _ c.removal-in.auto.nodes _ c.args.store.now c.in-Ok.built c.in-Ok.ensures.left c.args.base c.args.place c.in-Ok.ensures.law c.if-count-base.false;
-      lender = ap (λ x. x.ghost_name) c.take-in.ensures.nodes;
+    let same = same_archive c.take_in.new.self.nodes.now c.removal_in.new.nodes c.take_in.new.self.used c.in-Ok.built.used c.removal_in.new.versions c.removal_in.new.versions c.take_in.new.self.count _ c.args.store.now c.args.store.now (ap (λ x. x.now) c.take_in.ensures.nodes) c.take_in.ensures.used refl c.take_in.ensures.count refl in
+    rw (c.take_in.ensures.answer, same) (record {
+      kept = removal_done g.Q.Summary.means g.S.BlockStore.rows g.S.BlockStore.refuses _ _ c.removal_in.auto.nodes _ c.args.store.now c.in-Ok.built c.in-Ok.ensures.left c.args.base c.args.place;
+      law = removal_ok g.Q.Summary.means g.S.BlockStore.rows g.S.BlockStore.refuses _ _ c.removal_in.auto.nodes _ c.args.store.now c.in-Ok.built c.in-Ok.ensures.left c.args.base c.args.place c.in-Ok.ensures.law c.if-count-base.false;
+      lender = ap (λ x. x.ghost_name) c.take_in.ensures.nodes;
     })
