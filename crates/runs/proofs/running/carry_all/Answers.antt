@@ -7,9 +7,9 @@ pub loop-i-preserved : goal.loop-i-preserved
 loop-i-preserved g c =
     let n = c.min-count.ensures in
     let l = c.loop-i.invariant.0.long in (
-      so_far_more g.Q.Summary.means g.S.BlockStore.rows g.S.BlockStore.refuses (wanted c.args.readings.now) c.args.calls.now _ _ _ c.args.replies.now c.loop-i.replies c.note.new.replies c.loop-i.i _ c.carry-one-reply.result
-          c.loop-i.invariant.0 c.carry-one-reply.ensures.did c.note.ensures (omega arith) (omega arith),
-      c.carry-one-reply.ensures.lender ∙ c.loop-i.invariant.1,
+      so_far_more g.Q.Summary.means g.S.BlockStore.rows g.S.BlockStore.refuses (wanted c.args.readings.now) c.args.calls.now _ _ _ c.args.replies.now c.loop-i.replies c.note.new.replies c.loop-i.i _ c.carry_one-reply.result
+          c.loop-i.invariant.0 c.carry_one-reply.ensures.did c.note.ensures (omega arith) (omega arith),
+      c.carry_one-reply.ensures.lender ∙ c.loop-i.invariant.1,
     )
 
 pub returns : goal.returns
