@@ -1,12 +1,12 @@
 -- The tables of an archive that has just begun. Assumes nothing.
-use Rattle.std.proofs.Common.{◌≡◌, ℕ, zero, suc, ◌+◌, ◌<◌, ◌≤◌, min, Bool, true, false, ◌||◌, eqb, ◌⊎◌, List, [], ◌∷◌, length, set, Some, None, MatchBool, sym, refl, ap, ◌∙◌, subst, inl, inr, arith, length-set, ne_eqb}
+use Rattle.std.proofs.Common.{◌≡◌, ℕ, zero, suc, ◌<◌, false, ◌||◌, eqb, List, [], ◌∷◌, length, set, Some, None, MatchBool, sym, refl, ap, ◌∙◌, subst, inl, inr, arith, length-set, ne_eqb}
 use Rattle.std.specs.List.{slice_get}
 use Rattle.summary.specs.Summing.{Summing}
 use Rattle.flexlist.specs.Shape.{alone}
 use Rattle.flexlist.specs.Nodes.{Among}
 use Rattle.laid.specs.Laid.{Laid, last}
 use Rattle.laid.specs.Shared.{Spot, spots}
-use Rattle.history.specs.Edits.{lead, Edit, lists, list_of}
+use Rattle.history.specs.Edits.{lead, lists}
 use Rattle.history.specs.Replay.{node_count}
 use Rattle.nodes.specs.declared.node.Node.{Node}
 use Rattle.nodes.specs.Holding.{leaf_node, node_of}

@@ -1,12 +1,12 @@
 -- From the edits over plain slices to the edits on a node table. Assumes nothing.
-use Rattle.std.proofs.Common.{◌≡◌, ℕ, zero, suc, ◌+◌, ◌-◌, ◌<◌, ◌≤◌, Bool, true, false, cond, ltb, leb, List, [], ◌∷◌, length, set, Some, None, Ok, Err, Option, Result, sym, refl, ap, ◌∙◌, subst, arith, ltb-false, leb-false}
+use Rattle.std.proofs.Common.{◌≡◌, ℕ, suc, ◌+◌, ◌-◌, ◌<◌, leb, List, length, Some, None, Ok, Err, Option, Result, sym, refl, ap, ◌∙◌, subst, arith, ltb-false, leb-false}
 use Rattle.std.proofs.lemmas.Bool.{cond-true}
 use Rattle.summary.specs.Summing.{Summing}
 use Rattle.store.specs.declared.cause.Cause.{Cause}
 use Rattle.store.specs.Interface.{Placed, Taken}
 use Rattle.history.specs.Edits.{Content, Edit, list_of}
 use Rattle.history.specs.Edits as edits
-use Rattle.history.specs.Replay.{written_by, InPlace}
+use Rattle.history.specs.Replay.{InPlace}
 use Rattle.history.proofs.Bounds.{edits_bounded}
 use Rattle.nodes.specs.declared.node.Node.{Node}
 use Rattle.nodes.specs.declared.walks.Built.{Built}
@@ -20,7 +20,7 @@ use Rattle.archive.specs.declared.table.Accepted.{Accepted}
 use Rattle.archive.specs.Stands.{Tables, Stands}
 use Rattle.archive.specs.Looking.{in_use}
 use Rattle.archive.specs.Refusals.{insert_refusal, change_refusal, removal_refusal}
-use Rattle.archive.specs.Editing.{ByRefusal, RowEditLeft, EditLeft, RowAccepted, InsertLaw, ChangeLaw, RemovalDone, RemovalLeft, RemovalAccepted, RemovalLaw}
+use Rattle.archive.specs.Editing.{ByRefusal, RowEditLeft, RowAccepted, InsertLaw, ChangeLaw, RemovalDone, RemovalAccepted, RemovalLaw}
 use Rattle.archive.specs.Calling.{Asked, Archive, Answered, EditDone, EditKept, Standing, EditAccepted, EditTold, EditLaw, ReadingTold, SpanTold, SummaryTold}
 use Rattle.archive.specs.Asking.{ReadingLaw, SpanLeft, SpanLaw, SummaryLaw}
 use Rattle.archive.specs.Calling as asked

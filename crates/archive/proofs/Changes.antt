@@ -1,18 +1,17 @@
 -- A change, from what its look, its put, its walk and its record leave. Assumes nothing.
-use Rattle.std.proofs.Common.{◌≡◌, ℕ, zero, suc, ◌+◌, ◌-◌, ◌*◌, ◌%◌, ◌^◌, ◌<◌, ◌≤◌, min, Bool, true, false, cond, ltb, leb, List, [], ◌∷◌, ◌++◌, length, take, drop, set, Some, None, Ok, Err, Option, Result, sym, refl, ap, ◌∙◌, subst, arith, length-append, length-drop, take-append-drop, length-take, ltb-false, leb-false}
+use Rattle.std.proofs.Common.{◌≡◌, ℕ, suc, ◌+◌, ◌-◌, ◌≤◌, false, List, [], ◌∷◌, ◌++◌, length, take, drop, set, Some, Ok, sym, refl, ap, ◌∙◌, subst, arith, length-append, take-append-drop, leb-false}
 use Rattle.std.specs.List.{slice_get, AllByRecursion as All}
 use Rattle.std.proofs.ByRecursion.{All-append, All-take, All-drop}
 use Rattle.summary.specs.Summing.{Summing}
 use Rattle.store.specs.declared.cause.Cause.{Cause}
 use Rattle.store.specs.Interface.{Taken}
 use Rattle.flexlist.specs.Building.{Plan, made}
-use Rattle.laid.specs.Laid.{Laid, plain, root, lay, Part, whole}
+use Rattle.laid.specs.Laid.{Laid, lay, whole}
 use Rattle.history.specs.Edits.{Content, Item, Edit, Known, change, list_of, content_of, first_changed}
 use Rattle.history.specs.Replay.{path, written_by, next_list}
 use Rattle.history.proofs.Sound.{version_sound}
 use Rattle.history.proofs.Bounds.{edits_bounded}
 use Rattle.nodes.specs.declared.node.Node.{Node}
-use Rattle.nodes.specs.declared.walks.Built.{Built}
 use Rattle.nodes.specs.Holding.{Grown}
 use Rattle.nodes.specs.Views.{blocks_in}
 use Rattle.nodes.specs.Changing.{change_at, Changed}
@@ -23,7 +22,7 @@ use Rattle.questions.specs.Readings.{readings_in as readings_at}
 use Rattle.archive.specs.declared.version.Version.{Version}
 use Rattle.archive.specs.declared.version.Kind.TheVariants.{Change}
 use Rattle.archive.specs.Records.{readings_in, edit_record}
-use Rattle.archive.specs.Stands.{Tables, Fair, RowsStand, Stands, node_limit, version_limit}
+use Rattle.archive.specs.Stands.{Tables, Fair, Stands, node_limit, version_limit}
 use Rattle.archive.specs.Refusals.{change_refusal}
 use Rattle.archive.specs.Looking.{RefusedOr}
 use Rattle.archive.specs.Editing.{ByRefusal, RowAccepted}

@@ -1,27 +1,27 @@
 -- One accepted edit, from what its walk and its writes leave. Assumes nothing.
-use Rattle.std.proofs.Common.{◌≡◌, ℕ, zero, suc, ◌+◌, ◌-◌, ◌^◌, ◌<◌, ◌≤◌, min, eqb, ◌⊎◌, List, [], ◌∷◌, ◌++◌, length, set, Some, sym, refl, ap, ◌∙◌, subst, inl, inr, arith, length-set, eq-eqb}
-use Rattle.std.specs.List.{slice_get, AllByRecursion as All}
+use Rattle.std.proofs.Common.{◌≡◌, ℕ, suc, ◌+◌, ◌-◌, ◌<◌, ◌≤◌, eqb, List, ◌∷◌, length, set, Some, sym, refl, ap, ◌∙◌, subst, inr, arith, length-set, eq-eqb}
+use Rattle.std.specs.List.{AllByRecursion as All}
 use Rattle.std.proofs.lemmas.Bool.{cond-true}
 use Rattle.std.proofs.ByRecursion.{All-weaker}
 use Rattle.summary.specs.Summing.{Summing}
 use Rattle.flexlist.specs.Building.{Plan, keep, new_last, new_leaf, new_fork, made}
-use Rattle.flexlist.specs.Nodes.{Among, leaves}
+use Rattle.flexlist.specs.Nodes.{Among}
 use Rattle.flexlist.proofs.Lists.{among_left, among_right}
-use Rattle.laid.specs.Laid.{Laid, last, leaf, fork, plain, root, lay, Part, whole, in_rest, in_below, in_after, KeptParts}
+use Rattle.laid.specs.Laid.{Laid, leaf, fork, lay, Part, whole, in_rest, in_below, in_after, KeptParts}
 use Rattle.laid.specs.Shared.{Spot, spots, KeepsSpots}
-use Rattle.history.specs.Edits.{Content, Item, Edit, Known, base_of, brought, list_of, content_of}
+use Rattle.history.specs.Edits.{Edit, Known, base_of, brought, list_of, content_of}
 use Rattle.history.specs.Replay.{written_by, next_list}
 use Rattle.history.proofs.Sound.{known_later, version_sound}
 use Rattle.nodes.specs.declared.node.Node.{Node}
-use Rattle.nodes.specs.Holding.{Holds, Grown}
+use Rattle.nodes.specs.Holding.{Grown}
 use Rattle.nodes.specs.Walking.{Ready, Room, LaidOut, CountedTo}
 use Rattle.nodes.proofs.Tables.{nth_set_same, nth_set_other}
 use Rattle.archive.specs.declared.version.Version.{Version}
 use Rattle.archive.specs.Records.{edit_record}
-use Rattle.archive.specs.Stands.{Tables, Fair, VersionStands, TablesStand, RowsStand, node_limit, version_limit}
+use Rattle.archive.specs.Stands.{Tables, Fair, TablesStand, RowsStand, node_limit, version_limit}
 use Rattle.archive.proofs.Moved.{holds_moved}
 use Rattle.archive.proofs.Next.{agree_later, stands_next}
-use Rattle.archive.proofs.Standing.{ready, counted, lead_empty, leaves_are}
+use Rattle.archive.proofs.Standing.{ready, lead_empty, leaves_are}
 use Rattle.archive.proofs.Planned.{PlanFor, laid_shape, made_written, laid_shared}
 use Rattle.archive.proofs.Looks.{BaseFound}
 

@@ -1,5 +1,5 @@
 -- An insert, from what its look, its put, its walk and its record leave. Assumes nothing.
-use Rattle.std.proofs.Common.{◌≡◌, ℕ, zero, suc, ◌+◌, ◌-◌, ◌*◌, ◌%◌, ◌^◌, ◌<◌, ◌≤◌, min, Bool, true, false, cond, ltb, leb, List, [], ◌∷◌, ◌++◌, length, take, drop, set, Some, None, Ok, Err, Option, Result, unwrap_or, sym, refl, ap, ◌∙◌, subst, mod-eq_of_lt, arith, length-append, length-drop, take-append-drop, length-take, ltb-false, leb-false}
+use Rattle.std.proofs.Common.{◌≡◌, ℕ, suc, ◌+◌, ◌-◌, ◌*◌, ◌%◌, ◌^◌, ◌<◌, ◌≤◌, List, [], ◌∷◌, ◌++◌, length, take, drop, set, Some, None, Ok, Err, Option, unwrap_or, sym, refl, ap, ◌∙◌, subst, mod-eq_of_lt, arith, length-append, length-drop, take-append-drop, length-take, ltb-false, leb-false}
 use native.Mathlib.Decide.{dec_le}
 use Rattle.std.proofs.lemmas.Option.{slice_get_past}
 use Rattle.std.specs.List.{slice_get, AllByRecursion as All}
@@ -8,7 +8,7 @@ use Rattle.summary.specs.Summing.{Summing}
 use Rattle.store.specs.declared.cause.Cause.{Cause}
 use Rattle.store.specs.Interface.{Placed, earlier, added, Taken}
 use Rattle.flexlist.specs.Building.{Plan, made}
-use Rattle.laid.specs.Laid.{Laid, plain, Part, whole}
+use Rattle.laid.specs.Laid.{Laid, whole}
 use Rattle.history.specs.Edits.{Content, Item, Edit, insert, list_of, lists, content_of}
 use Rattle.history.specs.Replay.{path, written_by, next_list}
 use Rattle.history.proofs.Sound.{histories_sound}
@@ -25,11 +25,11 @@ use Rattle.archive.specs.declared.version.Kind.TheVariants.{Insert}
 use Rattle.archive.specs.declared.fault.EditFault.{EditFault}
 use Rattle.archive.specs.declared.fault.EditFault.TheVariants.{Store}
 use Rattle.archive.specs.Records.{readings_in, edit_record}
-use Rattle.archive.specs.Stands.{Tables, Fair, TablesStand, RowsStand, Stands, node_limit, version_limit}
-use Rattle.archive.specs.Refusals.{insert_refusal, later_fault, full, free}
+use Rattle.archive.specs.Stands.{Tables, Fair, RowsStand, Stands, node_limit, version_limit}
+use Rattle.archive.specs.Refusals.{insert_refusal}
 use Rattle.archive.specs.Looking.{RefusedOr}
 use Rattle.archive.specs.Editing.{ByRefusal, RowAccepted}
-use Rattle.archive.proofs.Later.{nth_front, nth_end, nth_within, some_none, list_later, list_new}
+use Rattle.archive.proofs.Later.{nth_front, nth_end, nth_within, list_later, list_new}
 use Rattle.archive.proofs.Planned.{insert_planned}
 use Rattle.archive.proofs.Tried.{passed, all_passed}
 use Rattle.archive.proofs.Looks.{found_below, BaseFound}

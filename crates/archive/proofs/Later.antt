@@ -1,8 +1,8 @@
 -- One edit more: what stays of a history, and what is new. Assumes nothing.
-use Rattle.std.proofs.Common.{◌≡◌, ℕ, zero, suc, ◌+◌, ◌<◌, ◌≤◌, Bool, true, false, cond, eqb, List, [], ◌∷◌, ◌++◌, length, Some, None, Option, unwrap_or, sym, refl, ap, ◌∙◌, subst, arith, eq-eqb, ne_eqb, eqb-true}
+use Rattle.std.proofs.Common.{◌≡◌, ℕ, zero, suc, ◌<◌, ◌≤◌, Bool, true, false, eqb, List, [], ◌∷◌, ◌++◌, length, Some, None, unwrap_or, sym, refl, ap, ◌∙◌, arith, eq-eqb, ne_eqb, eqb-true}
 use Rattle.std.specs.List.{slice_get}
 use Rattle.std.proofs.lemmas.Bool.{cond-true, cond-false}
-use Rattle.history.specs.Edits.{Item, Edit, lists, list_of, content_of, base_of, done}
+use Rattle.history.specs.Edits.{Edit, lists, list_of, content_of}
 use Rattle.history.specs.Replay.{next_list}
 use Rattle.history.proofs.Sound.{histories_sound}
 use Rattle.archive.specs.Records.{edit_of, edits_before, record_by, record_of}

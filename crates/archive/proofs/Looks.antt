@@ -1,16 +1,14 @@
 -- What a look at tables that stand finds. Assumes nothing.
-use Rattle.std.proofs.Common.{◌≡◌, ℕ, zero, suc, ◌+◌, ◌-◌, ◌^◌, ◌<◌, ◌≤◌, min, Bool, true, false, cond, eqb, ltb, leb, List, [], ◌∷◌, length, Some, None, Ok, Err, Option, Result, unwrap_or, sym, refl, ap, ◌∙◌, subst, arith, le-ltb, lt-ltb, eqb-true, le-leb, leb-false, leb-true}
-use native.Mathlib.Decide.{dec_le}
+use Rattle.std.proofs.Common.{◌≡◌, ℕ, zero, suc, ◌+◌, ◌-◌, ◌<◌, ◌≤◌, Bool, true, false, cond, eqb, ltb, leb, List, [], ◌∷◌, length, Some, None, Ok, Err, Option, unwrap_or, sym, refl, ap, ◌∙◌, subst, arith, le-ltb, lt-ltb, le-leb, leb-false}
 use borrow.Author.Tests.{lt-leb, eqb-false}
 use Rattle.std.specs.List.{slice_get}
 use Rattle.std.proofs.lemmas.Bool.{cond-true, cond-false}
 use Rattle.summary.specs.Summing.{Summing}
-use Rattle.flexlist.specs.Nodes.{nodes, nodes_of_both, to_place, leaves}
+use Rattle.flexlist.specs.Nodes.{nodes, nodes_of_both, to_place}
 use Rattle.laid.specs.Laid.{Laid, plain, root}
 use Rattle.history.specs.Edits.{Edit, Item, lists, list_of, content_of}
 use Rattle.history.specs.Replay.{path, two_paths}
 use Rattle.history.proofs.Sound.{version_sound, histories_sound}
-use Rattle.nodes.specs.Holding.{own_blocks}
 use Rattle.questions.specs.Paths.{PathCounted, PathsCounted}
 use Rattle.archive.specs.declared.version.Version.{Version}
 use Rattle.archive.specs.declared.fault.EditFault.{EditFault}
@@ -19,7 +17,7 @@ use Rattle.archive.specs.Records.{edit_of, edits_before, readings_in, record_by,
 use Rattle.archive.specs.Stands.{Tables, VersionStands, TablesStand, node_limit, version_limit}
 use Rattle.archive.specs.Looking.{in_use, RefusedOr}
 use Rattle.archive.specs.Refusals.{later_fault, full, free, insert_refusal, change_refusal, removal_refusal}
-use Rattle.archive.proofs.Later.{nth_front, nth_within, same_some, some_none}
+use Rattle.archive.proofs.Later.{nth_front, same_some, some_none}
 use Rattle.archive.proofs.Planned.{same_shape}
 use Rattle.archive.proofs.Standing.{counted, lead_empty, leaves_are}
 

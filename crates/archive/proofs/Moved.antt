@@ -1,5 +1,5 @@
 -- A table that keeps the entries of a tree still holds it, also where contents of other identities have changed. Assumes nothing.
-use Rattle.std.proofs.Common.{◌≡◌, ℕ, ◌+◌, ◌<◌, ◌≤◌, ◌⊎◌, List, [], ◌∷◌, ◌++◌, Some, None, Option, sym, refl, ap, ◌∙◌, ap₂, inl, inr}
+use Rattle.std.proofs.Common.{◌≡◌, ℕ, List, Some, None, sym, refl, ap, ◌∙◌, ap₂, inl, inr}
 use Rattle.std.specs.List.{slice_get}
 use Rattle.summary.specs.Summing.{Summing}
 use Rattle.flexlist.specs.Nodes.{identities, Among}

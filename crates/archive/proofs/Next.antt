@@ -1,23 +1,19 @@
 -- The tables of an archive after one accepted edit more. Assumes nothing.
-use Rattle.std.proofs.Common.{◌≡◌, ℕ, zero, suc, ◌+◌, ◌<◌, ◌≤◌, ◌⊎◌, List, [], ◌∷◌, ◌++◌, map, length, Some, sym, refl, ap, ◌∙◌, subst, inl, inr, add-one, arith, length-append}
+use Rattle.std.proofs.Common.{◌≡◌, ℕ, suc, ◌+◌, ◌<◌, ◌≤◌, ◌⊎◌, List, [], ◌∷◌, ◌++◌, length, Some, sym, ap, ◌∙◌, subst, inl, inr, add-one, arith, length-append}
 use native.Mathlib.Decide.{dec_le}
 use Rattle.std.specs.List.{slice_get, AllByRecursion as All}
-use Rattle.std.proofs.ByRecursion.{All-weaker}
 use Rattle.summary.specs.Summing.{Summing}
 use Rattle.flexlist.specs.Shape.{FlexList}
 use Rattle.flexlist.specs.Nodes.{identities, Among}
 use Rattle.flexlist.proofs.Shape.{flex_identities}
 use Rattle.laid.specs.Laid.{Laid, plain, root}
-use Rattle.laid.specs.Shared.{Spot, spots, OwnEntries, Under, Shared}
+use Rattle.laid.specs.Shared.{Shared}
 use Rattle.history.specs.Edits.{Item, Edit, Known, base_of, list_of, blocks_of, content_of, identities_of}
-use Rattle.history.specs.Replay.{node_count, written_by, next_list}
+use Rattle.history.specs.Replay.{node_count, written_by}
 use Rattle.history.proofs.Sound.{version_sound}
 use Rattle.history.proofs.Bounds.{ids_blocks}
-use Rattle.nodes.specs.declared.node.Node.{Node}
-use Rattle.nodes.specs.Holding.{Holds, Grown}
-use Rattle.archive.specs.declared.version.Version.{Version}
-use Rattle.archive.specs.Records.{record_of, record_by, edit_of, edits_before}
-use Rattle.archive.specs.Stands.{Tables, node_limit, version_limit, Fair, VersionStands, TablesStand}
+use Rattle.archive.specs.Records.{edit_of, edits_before}
+use Rattle.archive.specs.Stands.{Tables, Fair, VersionStands, TablesStand}
 use Rattle.archive.specs.Steps.{MadeNext, StepsStand}
 use Rattle.archive.proofs.Later.{nth_front, nth_end, nth_within, same_some, list_later, list_new, content_later, edit_later, before_later, edit_new, before_new, edit_past, record_later, record_new}
 use Rattle.archive.proofs.Moved.{Agree, holds_moved}

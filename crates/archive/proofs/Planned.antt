@@ -1,23 +1,21 @@
 -- A plan for an edit, laid into the free entries, is by the sharing rule the tree of the version that the edit gives. Assumes nothing.
-use Rattle.std.proofs.Common.{◌≡◌, ℕ, zero, suc, ◌+◌, ◌<◌, ◌≤◌, ◌⊎◌, List, [], ◌∷◌, ◌++◌, map, length, take, drop, sym, refl, ap, ◌∙◌, subst, ap₂, inl, inr, add-one, arith, take-append-drop, drop-drop}
+use Rattle.std.proofs.Common.{◌≡◌, ℕ, suc, ◌+◌, ◌<◌, ◌≤◌, List, [], ◌∷◌, ◌++◌, length, take, drop, sym, refl, ap, ◌∙◌, subst, ap₂, inl, inr, add-one, arith, take-append-drop, drop-drop}
 use Rattle.std.specs.List.{AllByRecursion as All}
 use Rattle.std.proofs.lemmas.List.{map-append}
-use Rattle.summary.specs.Summing.{Summing}
-use Rattle.flexlist.specs.Shape.{Block, block, Tree, FlexList}
+use Rattle.flexlist.specs.Shape.{block, Tree, FlexList}
 use Rattle.flexlist.specs.Nodes.{identities, stretches, to_place, Among, Distinct}
 use Rattle.flexlist.specs.Sharing.{written}
 use Rattle.flexlist.specs.Building.{Plan, made, built, New, EachMade, Builds, insert as insert_plan, change as change_plan, remove as remove_plan, Gap, to_this}
 use Rattle.flexlist.proofs.Exact.{insert_builds, change_builds, removal_builds}
 use Rattle.flexlist.proofs.Shape.{exactly_one}
-use Rattle.laid.specs.Laid.{Laid, plain, root, plain_plan, lay}
+use Rattle.laid.specs.Laid.{Laid, plain, plain_plan, lay}
 use Rattle.laid.specs.Shared.{OwnEntries, Under, Shared, KeepsSpots}
-use Rattle.laid.proofs.Spots.{plain_lay, made_plain}
+use Rattle.laid.proofs.Spots.{plain_lay}
 use Rattle.laid.proofs.Laying.{laying_shares}
 use Rattle.history.specs.Edits.{Content, Item, Edit, Known, insert, change, removal, base_of, first_changed, list_of, blocks_of, identities_of}
 use Rattle.history.specs.Replay.{shape, written_by, next_list}
 use Rattle.history.proofs.Sound.{version_sound, fresh}
 use Rattle.history.proofs.Bounds.{shape_is, front_length, first_of}
-use Rattle.archive.specs.Stands.{Tables, VersionStands}
 use Rattle.archive.proofs.Standing.{tree_ids}
 
 module _ {R : Type 0} where

@@ -1,10 +1,10 @@
 -- What the root of a version's tree counts: the blocks and the readings of its list. Assumes nothing.
-use Rattle.std.proofs.Common.{◌≡◌, ℕ, zero, suc, ◌+◌, ◌*◌, ◌^◌, ◌<◌, ◌≤◌, List, [], ◌∷◌, ◌++◌, map, length, sym, refl, ap, ◌∙◌, subst, arith, length-append}
+use Rattle.std.proofs.Common.{◌≡◌, ℕ, ◌≤◌, List, [], ◌∷◌, ◌++◌, map, length, refl, ap, ◌∙◌, arith, length-append}
 use Rattle.std.specs.List.{slice_get, AllByRecursion as All}
 use Rattle.summary.specs.Summing.{Summing}
 use Rattle.flexlist.specs.Shape.{FlexList}
 use Rattle.laid.specs.Laid.{Laid, plain, root}
-use Rattle.history.specs.Edits.{Content, lead, Item, Edit, Known, blocks_of, content_of, identities_of}
+use Rattle.history.specs.Edits.{Item, Edit, Known, blocks_of, content_of, identities_of}
 use Rattle.history.proofs.Bounds.{ids_blocks}
 use Rattle.nodes.specs.declared.node.Node.{Node}
 use Rattle.nodes.specs.Holding.{Holds}

@@ -1,9 +1,8 @@
 -- What a version that stands gives to the walks over its tree. Assumes nothing.
-use Rattle.std.proofs.Common.{◌≡◌, ℕ, zero, suc, ◌+◌, ◌^◌, ◌<◌, ◌≤◌, min, cond, eqb, ◌⊎◌, List, [], ◌∷◌, ◌++◌, map, length, Some, sym, refl, ap, ◌∙◌, subst, inl, inr, arith, lit<, ne_eqb}
+use Rattle.std.proofs.Common.{◌≡◌, ℕ, suc, ◌≤◌, eqb, List, [], ◌∷◌, ◌++◌, length, sym, refl, ap, ◌∙◌, subst, inl, arith, ne_eqb}
 use lib.ListN.{length-map}
-use Rattle.std.specs.List.{slice_get, AllByRecursion as All}
+use Rattle.std.specs.List.{AllByRecursion as All}
 use Rattle.std.proofs.lemmas.Bool.{cond-false}
-use Rattle.std.proofs.ByRecursion.{All-append}
 use Rattle.summary.specs.Summing.{Summing}
 use Rattle.flexlist.specs.Shape.{FlexList, Tree}
 use Rattle.flexlist.specs.Nodes.{identities, leaves, Among}
@@ -11,14 +10,13 @@ use Rattle.flexlist.proofs.Shape.{flex_identities, lead, tail_of, lead_tail}
 use Rattle.flexlist.proofs.Places.{long_enough}
 use Rattle.laid.specs.Laid.{Laid, last, leaf, fork, plain, root, leader}
 use Rattle.laid.specs.Shared.{Spot, spots, Under}
-use Rattle.history.specs.Edits.{Content, lead as lead_content, Item, Edit, Known, list_of, blocks_of, content_of, identities_of}
-use Rattle.history.proofs.Sound.{version_sound}
+use Rattle.history.specs.Edits.{Content, lead as lead_content, Item, Edit, Known, blocks_of, content_of, identities_of}
 use Rattle.history.proofs.Bounds.{ids_blocks}
 use Rattle.nodes.specs.declared.node.Node.{Node}
 use Rattle.nodes.specs.Holding.{Holds, BlocksAfter, Counted, own_blocks}
 use Rattle.nodes.specs.Making.{Stored}
 use Rattle.nodes.specs.Walking.{AllStored, Ready}
-use Rattle.archive.specs.Stands.{Tables, Fair, VersionStands, RowsStand}
+use Rattle.archive.specs.Stands.{Fair, RowsStand}
 
 module _ {R : Type 0} where
   pub content_lead : (es : List (Edit R)) → content_of es 0 ≡ lead_content

@@ -1,5 +1,5 @@
 -- What begin writes. Assumes nothing.
-use Rattle.std.specs.Prelude.{◌≡◌, ℕ, ◌≤◌, Bool, true, false, ◌||◌, List, [], length, None, MatchBool, ◌==◌, slice_set}
+use Rattle.std.specs.Prelude.{◌≡◌, ◌||◌, List, [], length, None, MatchBool, ◌==◌, slice_set}
 use Rattle.summary.specs.Summing.{Summing}
 use Rattle.history.specs.Edits.{lead}
 use Rattle.nodes.specs.declared.node.Node.{Node}
@@ -7,7 +7,7 @@ use Rattle.nodes.specs.Holding.{leaf_node}
 use Rattle.archive.specs.declared.version.Version.{Version}
 use Rattle.archive.specs.declared.begin.Begun.{Begun}
 use Rattle.archive.specs.Records.{begun_record}
-use Rattle.archive.specs.Stands.{Tables, TablesStand}
+use Rattle.archive.specs.Stands.{TablesStand}
 
 -- where a table is empty nothing is written and no version is there
 pub record NotBegun {Q : Type 0} (nodes : List (Node Q)) (versions : List Version) (r : Begun) (nodes_after : List (Node Q)) (versions_after : List Version) : Type 0 where

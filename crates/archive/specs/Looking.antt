@@ -1,12 +1,11 @@
 -- What a call learns of its base before it changes anything. Assumes nothing.
-use Rattle.std.specs.Prelude.{◌≡◌, ℕ, ◌≤◌, cond, List, Some, None, Ok, Err, Option, Result, nat_le}
+use Rattle.std.specs.Prelude.{◌≡◌, ℕ, cond, List, Some, None, Ok, Err, Option, Result, nat_le}
 use Rattle.std.specs.List.{slice_get}
 use Rattle.summary.specs.Summing.{Summing}
 use Rattle.history.specs.Edits.{Edit}
 use Rattle.archive.specs.declared.version.Version.{Version}
 use Rattle.archive.specs.declared.fault.EditFault.{EditFault}
 use Rattle.archive.specs.Stands.{Tables, TablesStand}
-use Rattle.archive.specs.Refusals.{insert_refusal, change_refusal, removal_refusal}
 
 -- the record of a version in use
 abbrev pub in_use : List Version → ℕ → ℕ → Option Version

@@ -1,5 +1,5 @@
 -- When a call is refused, and with what number. Assumes nothing.
-use Rattle.std.specs.Prelude.{ℕ, suc, ◌+◌, ◌-◌, min, Bool, cond, ◌||◌, List, [], ◌∷◌, length, Some, None, Option, nat_le, nat_lt}
+use Rattle.std.specs.Prelude.{ℕ, suc, ◌+◌, ◌-◌, Bool, cond, ◌||◌, List, length, Some, None, Option, nat_le, nat_lt}
 use Rattle.store.specs.Causes.{cause_number}
 use Rattle.history.specs.Edits.{Edit, list_of}
 use Rattle.history.specs.Replay.{path, two_paths, node_count}

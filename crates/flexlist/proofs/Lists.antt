@@ -1,5 +1,5 @@
 -- Membership, distinct identities, and a list cut at a place.
-use Rattle.std.proofs.Common.{◌≡◌, ℕ, ◌+◌, true, false, eqb, ◌⊎◌, List, [], ◌∷◌, ◌++◌, map, length, refl, ap, subst, ap₂, inl, inr, ⊎_elim, arith}
+use Rattle.std.proofs.Common.{◌≡◌, ℕ, true, false, eqb, ◌⊎◌, List, [], ◌∷◌, ◌++◌, map, length, refl, ap, subst, ap₂, inl, inr, ⊎_elim, arith}
 use Rattle.std.proofs.lemmas.Bool.{eqb-true, eq-eqb, and_parts, and_from, or_cases, or_left, or_right, cases_Bool}
 use Rattle.flexlist.specs.Nodes.{Among, Distinct}
 use Rattle.flexlist.specs.Sharing.{same, one_of}

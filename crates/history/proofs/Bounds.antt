@@ -1,16 +1,16 @@
 -- What an edit writes, after any history. Assumes nothing.
-use Rattle.std.proofs.Common.{◌≡◌, ℕ, zero, suc, ◌+◌, ◌<◌, ◌≤◌, ◌⊎◌, List, [], ◌∷◌, ◌++◌, map, length, take, drop, sym, refl, ap, ◌∙◌, subst, inl, inr, add-one, arith, length-drop, take-append-drop, length-take, drop-drop}
+use Rattle.std.proofs.Common.{◌≡◌, ℕ, zero, suc, ◌+◌, ◌<◌, ◌≤◌, List, [], ◌∷◌, ◌++◌, map, length, take, drop, sym, refl, ap, ◌∙◌, subst, inl, inr, add-one, arith, take-append-drop, length-take, drop-drop}
 use lib.ListN.{length-map}
 use Rattle.std.proofs.lemmas.List.{map-append}
-use Rattle.flexlist.specs.Shape.{Block, block, Tree, FlexList}
+use Rattle.flexlist.specs.Shape.{block, FlexList}
 use Rattle.flexlist.specs.Nodes.{identities, nodes, nodes_of_both, to_place, Among}
 use Rattle.flexlist.specs.Sharing.{written}
 use Rattle.flexlist.proofs.Bounds.{insert_bound, removal_bound}
 use Rattle.flexlist.proofs.Exact.{change_bound}
 use Rattle.flexlist.proofs.Shape.{exactly_one, flex_identities}
 use Rattle.std.specs.List.{AllByRecursion as All}
-use Rattle.history.specs.Edits.{Known, Content, Item, Edit, insert, change, removal, base_of, first_changed, done, list_of, blocks_of, identities_of}
-use Rattle.history.specs.Replay.{shape, path, two_paths, written_by, InPlace, WithinBound, EditsBounded}
+use Rattle.history.specs.Edits.{Known, Item, Edit, insert, change, removal, first_changed, list_of, blocks_of, identities_of}
+use Rattle.history.specs.Replay.{shape, path, two_paths, written_by, EditsBounded}
 use Rattle.history.proofs.Sound.{version_sound, fresh}
 
 module _ {R : Type 0} where

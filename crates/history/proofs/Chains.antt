@@ -1,9 +1,9 @@
 -- Each version's list is its own chain of edits done on the empty version. Assumes nothing.
-use Rattle.std.proofs.Common.{◌≡◌, ℕ, zero, suc, ◌<◌, ◌≤◌, Bool, true, false, cond, eqb, leb, List, [], ◌∷◌, ◌++◌, length, Some, None, unwrap_or, sym, refl, ap, ◌∙◌, arith, eqb-true, leb-false, leb-true}
+use Rattle.std.proofs.Common.{◌≡◌, ℕ, zero, suc, ◌<◌, Bool, true, false, eqb, leb, List, [], ◌∷◌, ◌++◌, length, Some, unwrap_or, sym, refl, ap, ◌∙◌, arith, eqb-true, leb-false, leb-true}
 use borrow.Author.Tests.{eqb-false}
 use Rattle.std.specs.List.{slice_get}
 use Rattle.std.proofs.lemmas.Bool.{cond-true, cond-false}
-use Rattle.history.specs.Edits.{Item, Edit, base_of, done, lists, list_of}
+use Rattle.history.specs.Edits.{Edit, base_of, done, lists, list_of}
 use Rattle.history.specs.Chains.{chain_of, replayed, ChainsReplayed}
 use Rattle.history.proofs.Sound.{histories_sound}
 

@@ -1,12 +1,12 @@
 -- Every version of a history is sound. Assumes nothing.
-use Rattle.std.proofs.Common.{◌≡◌, ℕ, zero, suc, ◌+◌, ◌<◌, ◌≤◌, cond, eqb, ◌⊎◌, List, [], ◌∷◌, ◌++◌, map, length, take, drop, unwrap_or, sym, refl, ap, ◌∙◌, subst, inl, inr, add-one, arith, length-append, take-append-drop, drop-drop, eq-eqb, ne_eqb}
+use Rattle.std.proofs.Common.{◌≡◌, ℕ, zero, suc, eqb, List, [], ◌∷◌, ◌++◌, length, take, drop, unwrap_or, sym, refl, ap, ◌∙◌, subst, inl, inr, add-one, arith, length-append, take-append-drop, drop-drop, eq-eqb, ne_eqb}
 use Rattle.std.specs.List.{slice_get, AllByRecursion as All}
 use Rattle.std.proofs.lemmas.List.{map-append}
 use Rattle.std.proofs.ByRecursion.{All-weaker, All-append, All-push, All-take, All-drop}
 use Rattle.std.proofs.lemmas.Bool.{cond-true, cond-false}
 use Rattle.flexlist.specs.Nodes.{Distinct, Among}
-use Rattle.flexlist.proofs.Lists.{distinct_left, distinct_right, distinct_append, apart, among_cases, among_left, among_right}
-use Rattle.history.specs.Edits.{Content, Item, Edit, insert, change, removal, base_of, brought, first_changed, done, lists, list_of, content_of, identities_of, Known, Sound, HistoriesSound}
+use Rattle.flexlist.proofs.Lists.{distinct_left, distinct_right, distinct_append, apart}
+use Rattle.history.specs.Edits.{Item, Edit, insert, change, removal, base_of, brought, first_changed, done, lists, list_of, identities_of, Known, Sound, HistoriesSound}
 
 distinct_between : (n : ℕ) (as' bs : List ℕ) → Distinct (as' ++ bs) → (Among n as' → ⊥) → (Among n bs → ⊥) → Distinct (as' ++ (n ∷ bs))
 distinct_between n as' bs d f g =

@@ -1,5 +1,5 @@
 -- A plan is laid by the sharing rule. Assumes nothing.
-use Prim.Native.Nat.{ℕ, suc, ◌+◌, ◌<◌, ◌≤◌}
+use Prim.Native.Nat.{ℕ, ◌+◌, ◌<◌, ◌≤◌}
 use mathlib.Core.List.{List, [], ◌∷◌, ◌++◌}
 use mathlib.Core.Logic.{◌⊎◌, inl, inr}
 use mathlib.Core.Path.{◌≡◌, refl, ap, ap₂, sym, ◌∙◌, subst}
@@ -10,8 +10,8 @@ use Rattle.flexlist.specs.Sharing.{written, missing}
 use Rattle.flexlist.specs.Building.{Plan, keep, new_last, new_leaf, new_fork, made, built, New, EachMade}
 use Rattle.flexlist.proofs.Lists.{among_left, among_right, among_cases}
 use Rattle.flexlist.proofs.Written.{written_exactly}
-use Rattle.laid.specs.Laid.{Laid, last, leaf, fork, plain, plain_plan, lay}
-use Rattle.laid.specs.Shared.{Spot, spots, OwnEntries, Under, Shared, KeepsSpots, LayingShares}
+use Rattle.laid.specs.Laid.{Laid, plain, plain_plan, lay}
+use Rattle.laid.specs.Shared.{Spot, spots, OwnEntries, Under, KeepsSpots, LayingShares}
 use Rattle.laid.proofs.Spots.{plain_lay, made_plain, keeps_plain, spot_stretch}
 
 -- the nodes that a laid plan makes

@@ -1,5 +1,5 @@
 -- A FlexList with the table entry of each node, and plans for such trees laid into the next entries. Assumes nothing.
-use Rattle.std.specs.Prelude.{ℕ, suc, ◌+◌, List, [], ◌∷◌, ◌++◌}
+use Rattle.std.specs.Prelude.{ℕ, ◌+◌}
 use Rattle.flexlist.specs.Shape.{Tree}
 use Rattle.flexlist.specs.Shape as flat
 use Rattle.flexlist.specs.Building.{Plan, keep, new_last, new_leaf, new_fork, made}

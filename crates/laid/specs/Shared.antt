@@ -3,7 +3,7 @@ use Rattle.std.specs.Prelude.{ℕ, ◌+◌, ◌<◌, ◌≤◌, List, [], ◌∷
 use Rattle.flexlist.specs.Nodes.{identities, stretches, Among}
 use Rattle.flexlist.specs.Sharing.{written}
 use Rattle.flexlist.specs.Building.{Plan, keep, new_last, new_leaf, new_fork, made, New, EachMade}
-use Rattle.laid.specs.Laid.{Laid, last, leaf, fork, plain, root, plain_plan, lay}
+use Rattle.laid.specs.Laid.{Laid, last, leaf, fork, plain, plain_plan, lay}
 
 -- a node of a laid tree: its stretch and its entry
 pub record Spot : Type 0 where

@@ -1,5 +1,5 @@
 -- A walk to a place, arm by arm: which tree stands there, and what is left to lay. Assumes nothing.
-use Rattle.std.proofs.Common.{◌≡◌, ℕ, zero, suc, ◌+◌, ◌-◌, ◌<◌, ◌≤◌, min, List, sym, subst}
+use Rattle.std.proofs.Common.{◌≡◌, ℕ, suc, ◌-◌, ◌<◌, ◌≤◌, min, List, sym, subst}
 use Rattle.std.specs.List.{slice_get}
 use Rattle.flexlist.specs.Building.{Plan}
 use Rattle.flexlist.specs.Nodes.{leaves}

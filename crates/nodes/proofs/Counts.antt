@@ -1,12 +1,12 @@
 -- Which way a walk goes by its count of blocks, and what it counts on from there. Assumes nothing.
-use Rattle.std.proofs.Common.{◌≡◌, ℕ, suc, ◌+◌, ◌-◌, ◌<◌, ◌≤◌, min, List, length, sym, ◌∙◌, arith}
+use Rattle.std.proofs.Common.{◌≡◌, ℕ, suc, ◌+◌, ◌-◌, ◌<◌, ◌≤◌, min, List, length, ◌∙◌, arith}
 use Rattle.std.specs.List.{slice_get}
 use Rattle.flexlist.specs.Nodes.{leaves}
 use Rattle.summary.specs.Summing.{Summing}
 use Rattle.nodes.specs.declared.node.Node.{Node}
 use Rattle.nodes.specs.declared.view.View.TheVariants.{Nothing, Last, Followed, Forked}
-use Rattle.laid.specs.Laid.{Laid, last, leaf, fork, plain, root, leader}
-use Rattle.nodes.specs.Holding.{Content, own_blocks}
+use Rattle.laid.specs.Laid.{Laid, last, leaf, fork, plain}
+use Rattle.nodes.specs.Holding.{Content}
 use Rattle.nodes.specs.Views.{seen, blocks_in}
 use Rattle.nodes.specs.Walking.{Ready, CountedTo, BlockOf}
 use Rattle.nodes.proofs.Held.{from_nothing, from_last, from_followed, from_forked, seen_held, blocks_held, ready_leaf, ready_below, ready_after, some_leaf}

@@ -1,8 +1,8 @@
 -- The pieces of a tree that is cut after a place, arm by arm of the walks. Assumes nothing.
-use Rattle.std.proofs.Common.{◌≡◌, ℕ, suc, ◌+◌, ◌-◌, ◌<◌, ◌≤◌, min, List, length, Some, None, sym, refl, ap, ◌∙◌, subst, arith}
+use Rattle.std.proofs.Common.{◌≡◌, ℕ, suc, ◌+◌, ◌-◌, ◌<◌, ◌≤◌, min, List, length, Some, None, sym, refl, ◌∙◌, subst, arith}
 use Rattle.std.specs.List.{slice_get}
 use Rattle.std.proofs.lemmas.Bool.{lt-ltb, le-ltb, le-leb, lt-leb, cond-true, cond-false}
-use Rattle.flexlist.specs.Building.{keep, new_leaf, new_fork, made}
+use Rattle.flexlist.specs.Building.{keep, new_leaf, new_fork}
 use Rattle.flexlist.specs.Nodes.{leaves}
 use Rattle.summary.specs.Summing.{Summing}
 use Rattle.nodes.specs.declared.node.Node.{Node}
@@ -11,8 +11,7 @@ use Rattle.laid.specs.Laid.{Laid, last, leaf, fork, plain}
 use Rattle.nodes.specs.Holding.{Content, Grown}
 use Rattle.nodes.specs.Views.{seen, blocks_in}
 use Rattle.nodes.specs.Making.{LeafWritten, ForkWritten}
-use Rattle.nodes.specs.Walking.{Ready, LaidOut}
-use Rattle.nodes.specs.Cutting.{ends_at, left_at, right_at, cut_at, LeftMade, RightMade, CutMade}
+use Rattle.nodes.specs.Cutting.{left_at, right_at, cut_at, LeftMade, RightMade, CutMade}
 use Rattle.nodes.proofs.Held.{ready_on, some_leaf}
 use Rattle.nodes.proofs.Counts.{count_of}
 use Rattle.nodes.proofs.Laying.{Laying, room_leaf, room_below, room_beside, room_after, lay_kept, lay_last, lay_leaf, lay_fork}

@@ -1,8 +1,8 @@
 -- The plans of removal without their entries: that of the FlexList at the gap before the block. Assumes nothing.
-use Rattle.std.proofs.Common.{◌≡◌, ℕ, zero, suc, ◌+◌, ◌-◌, ◌<◌, ◌≤◌, cond, ltb, sym, refl, ap, ◌∙◌, arith}
+use Rattle.std.proofs.Common.{◌≡◌, ℕ, ◌-◌, ◌<◌, ltb, sym, refl, ap, ◌∙◌, arith}
 use Rattle.flexlist.specs.Shape.{Tree}
-use Rattle.flexlist.specs.Nodes.{Path, leaves, to_place, place}
-use Rattle.flexlist.specs.Building.{Plan, keep, new_leaf, new_fork, lead_by, merge_last, merge_leaf, merge_fork, merge, Gap, here, further, in_below, between, in_after, to_first, to_this, to_before, remove}
+use Rattle.flexlist.specs.Nodes.{leaves, to_place, place}
+use Rattle.flexlist.specs.Building.{Plan, keep, new_leaf, new_fork, lead_by, merge_last, merge_leaf, merge_fork, merge, Gap, here, further, in_below, between, in_after, to_this, remove}
 use Rattle.flexlist.proofs.Places.{place_gap, place_first, place_less, place_to_place}
 use Rattle.laid.specs.Laid.{Laid, last, leaf, fork, plain, plain_plan}
 use Rattle.nodes.specs.Removing.{led_by, joined_last, joined_leaf, joined_fork, joined, remove_at}

@@ -1,5 +1,5 @@
 -- A held tree: what is seen at its root, what its nodes count, its parts, and that it stays where a table grows. Assumes nothing.
-use Rattle.std.proofs.Common.{◌≡◌, ℕ, suc, ◌+◌, ◌%◌, ◌^◌, ◌<◌, ◌≤◌, true, ◌&&◌, ltb, List, length, Some, None, sym, refl, ap, ◌∙◌, subst, arith}
+use Rattle.std.proofs.Common.{◌≡◌, ℕ, ◌+◌, ◌<◌, ltb, List, length, Some, sym, ap, ◌∙◌, subst, arith}
 use Rattle.std.specs.List.{slice_get}
 use Rattle.std.proofs.lemmas.Bool.{lt-ltb, cond-true, and_from}
 use Rattle.flexlist.specs.Nodes.{leaves}
@@ -8,9 +8,9 @@ use Rattle.nodes.specs.declared.node.Node.{Node}
 use Rattle.nodes.specs.declared.view.View.{View}
 use Rattle.nodes.specs.declared.view.View.TheVariants.{Nothing, Last, Followed, Forked}
 use Rattle.laid.specs.Laid.{Laid, last, leaf, fork, plain, root, leader}
-use Rattle.nodes.specs.Holding.{Content, own_blocks, node_of, Holds, Grown, BlocksAfter, Counted}
+use Rattle.nodes.specs.Holding.{Content, own_blocks, node_of, Holds, Grown, Counted}
 use Rattle.nodes.specs.Views.{seen, blocks_in}
-use Rattle.nodes.specs.Walking.{AllStored, Ready}
+use Rattle.nodes.specs.Walking.{Ready}
 
 module _ {R : Type 0} (c : ℕ → Content R) where
   -- what is to be seen at the root of a tree

@@ -1,10 +1,10 @@
 -- A plan laid out node by node: what each write adds to what stands already. Assumes nothing.
-use Rattle.std.proofs.Common.{◌≡◌, ℕ, suc, ◌+◌, ◌^◌, ◌<◌, ◌≤◌, List, length, Some, None, sym, refl, ap, ◌∙◌, subst, arith}
+use Rattle.std.proofs.Common.{◌≡◌, ℕ, ◌+◌, List, length, Some, None, sym, refl, ap, ◌∙◌, subst, arith}
 use Rattle.std.specs.List.{slice_get}
 use Rattle.flexlist.specs.Building.{Plan, keep, new_last, new_leaf, new_fork, made}
 use Rattle.summary.specs.Summing.{Summing}
 use Rattle.nodes.specs.declared.node.Node.{Node}
-use Rattle.laid.specs.Laid.{Laid, last, leaf, fork, root, lay}
+use Rattle.laid.specs.Laid.{Laid, root, lay}
 use Rattle.nodes.specs.Holding.{Content, fork_node, node_of, Holds, Grown}
 use Rattle.nodes.specs.Making.{LeafWritten, ForkWritten}
 use Rattle.nodes.specs.Walking.{Ready, Room, LaidOut, BlockOf}

@@ -5,7 +5,6 @@ use Rattle.flexlist.specs.Building.{keep}
 use Rattle.summary.specs.Summing.{Summing}
 use Rattle.nodes.specs.declared.node.Node.{Node}
 use Rattle.nodes.specs.declared.view.View.TheVariants.{Nothing, Last, Followed, Forked}
-use Rattle.laid.specs.Laid.{Laid}
 use Rattle.nodes.specs.Holding.{Grown}
 use Rattle.nodes.specs.Views.{seen}
 use Rattle.nodes.specs.Making.{LeafWritten, ForkWritten}

@@ -1,7 +1,7 @@
 -- What the plans of the edits keep: parts of the base, as they are. Assumes nothing.
-use Rattle.std.proofs.Common.{◌≡◌, ℕ, zero, suc, ◌-◌, true, false, ltb, leb}
+use Rattle.std.proofs.Common.{ℕ, zero, suc, ◌-◌, ltb, leb}
 use Rattle.std.proofs.lemmas.Bool.{cond_both}
-use Rattle.flexlist.specs.Building.{Plan, keep, new_last, new_leaf, new_fork}
+use Rattle.flexlist.specs.Building.{Plan}
 use Rattle.flexlist.specs.Nodes.{leaves}
 use Rattle.laid.specs.Laid.{Laid, last, leaf, fork, plain, Part, whole, in_rest, in_below, in_after, KeptParts}
 use Rattle.nodes.specs.Changing.{change_at}

@@ -3,8 +3,8 @@ use Rattle.std.proofs.Common.{◌≡◌, ℕ, zero, suc, ◌+◌, ◌-◌, ◌<�
 use Rattle.std.proofs.lemmas.Bool.{cases_lt, lt-ltb, le-ltb, le-leb, lt-leb, cond-true, cond-false}
 use Rattle.flexlist.specs.Shape.{Tree}
 use Rattle.flexlist.specs.Shape as flat
-use Rattle.flexlist.specs.Nodes.{Path, end, stop, on, below, after, leaves, to_place, place}
-use Rattle.flexlist.specs.Building.{Plan, keep, new_last, new_leaf, new_fork, at_end, left, right, cut, insert, change}
+use Rattle.flexlist.specs.Nodes.{leaves, to_place}
+use Rattle.flexlist.specs.Building.{Plan, keep, new_leaf, new_fork, at_end, left, right, cut, insert, change}
 use Rattle.flexlist.proofs.Places.{to_place_below, to_place_after}
 use Rattle.laid.specs.Laid.{Laid, last, leaf, fork, plain, plain_plan}
 use Rattle.nodes.specs.Changing.{change_at}

@@ -1,11 +1,10 @@
 -- What stands in a table of nodes for a laid tree, and what a walk over the table leaves. Assumes nothing.
-use Rattle.std.specs.Prelude.{◌≡◌, ℕ, ◌+◌, ◌%◌, ◌^◌, ◌<◌, ◌≤◌, min, List, [], ◌∷◌, length, Some, None, Option}
+use Rattle.std.specs.Prelude.{◌≡◌, ℕ, ◌+◌, ◌%◌, ◌^◌, ◌<◌, ◌≤◌, min, List, length, Some, None, Option}
 use Rattle.std.specs.List.{slice_get}
 use Rattle.summary.specs.Summing.{Summing, summary_of}
 use Rattle.flexlist.specs.Nodes.{leaves}
 pub use Rattle.history.specs.Edits.{Content}
 use Rattle.nodes.specs.declared.node.Node.{Node}
-use Rattle.nodes.specs.declared.node.Shape.{Shape}
 use Rattle.nodes.specs.declared.node.Shape.TheVariants.{Leaf, Fork}
 use Rattle.laid.specs.Laid.{Laid, last, leaf, fork, plain, root, leader}
 

@@ -1,5 +1,5 @@
 -- A node made from a block or from its parts, and written at the next free entry. Assumes nothing.
-use Rattle.std.specs.Prelude.{◌≡◌, ℕ, ◌+◌, ◌^◌, ◌<◌, ◌≤◌, List, length, Some, None, Option}
+use Rattle.std.specs.Prelude.{◌≡◌, ℕ, ◌+◌, ◌^◌, ◌<◌, List, length, Some, None, Option}
 use Rattle.std.specs.List.{slice_get}
 use Rattle.summary.specs.Summing.{Summing, summary_of}
 use Rattle.nodes.specs.declared.node.Node.{Node}

@@ -1,5 +1,5 @@
 -- A pile of any depth, by recursion on its layers. Assumes nothing.
-use Rattle.std.proofs.Common.{◌≡◌, ℕ, zero, suc, List, [], ◌∷◌, sym, refl, subst}
+use Rattle.std.proofs.Common.{◌≡◌, ℕ, zero, suc, List, sym, refl, subst}
 use Rattle.store.specs.declared.cause.Cause.{Cause}
 use Rattle.sharing.specs.Remembering.{remembered, Unknown}
 use Rattle.piles.specs.Piles.{Layers, bottom, tables, Nowhere, pile_rows, pile_refuses, Piled}

@@ -1,6 +1,6 @@
 -- The worked ranks, and that a pattern's fields say whether it is a number. Assumes nothing.
-use Rattle.std.proofs.Common.{not, ◌&&◌, refl, arith}
-use lib.Ieee.{to_bits, nan_bits, ones, hid, top}
+use Rattle.std.proofs.Common.{refl, arith}
+use lib.Ieee.{to_bits, nan_bits}
 use Rattle.std.proofs.lemmas.Bool.Decides.{nat_tests}
 use Rattle.reading.specs.Values.{RankValues, NanByFields}
 

@@ -1,6 +1,6 @@
 -- What bytes stand for. Assumes nothing.
-use Rattle.std.specs.Prelude.{◌≡◌, ℕ, ◌+◌, ◌*◌, ◌%◌, ◌^◌, ◌<◌, Bool, true, false, cond, not, ◌||◌, List, [], ◌∷◌, length, pos, ◌==◌, ◌≢◌, refl}
-use Rattle.std.proofs.Common.{ap, sym, ◌∙◌, mod-eq_of_lt, arith}
+use Rattle.std.specs.Prelude.{◌≡◌, ℕ, ◌^◌, ◌<◌, Bool, true, false, cond, not, ◌||◌, List, [], ◌∷◌, length, pos, ◌==◌, ◌≢◌, refl}
+use Rattle.std.proofs.Common.{ap, sym, ◌∙◌, mod-eq_of_lt}
 use Rattle.std.proofs.lemmas.Bool.{eqb-true}
 use Rattle.reading.specs.Bytes.{four_bytes}
 use Rattle.reading.specs.Patterns.{not_a_number, quiet}

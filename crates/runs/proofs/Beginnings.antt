@@ -1,5 +1,5 @@
 -- An archive that has just begun stands. Assumes nothing.
-use Rattle.std.proofs.Common.{◌≡◌, ℕ, zero, suc, min, Bool, true, false, cond, ◌||◌, eqb, List, [], map, length, take, drop, Some, None, MatchBool, sym, refl, ap, ◌∙◌, subst}
+use Rattle.std.proofs.Common.{◌≡◌, ℕ, zero, suc, min, Bool, true, false, cond, ◌||◌, eqb, List, [], map, length, take, drop, Some, None, MatchBool, sym, ap, ◌∙◌, subst}
 use Rattle.summary.specs.Summing.{Summing}
 use Rattle.store.specs.declared.cause.Cause.{Cause}
 use Rattle.history.specs.Edits.{lists, list_of}

@@ -1,19 +1,17 @@
 -- Each node of an archive holds the summary and the counts of the readings under it. Assumes nothing.
-use Rattle.std.proofs.Common.{◌≡◌, ℕ, ◌+◌, ◌<◌, ◌≤◌, List, length, Some, sym, refl, ap, ◌∙◌, arith}
-use Rattle.std.specs.List.{slice_get}
-use Rattle.summary.specs.Summing.{Summing, Lawful, summary_of}
+use Rattle.std.proofs.Common.{List, sym, refl, ap}
+use Rattle.summary.specs.Summing.{Summing, Lawful}
 use Rattle.laid.specs.Laid.{Laid, last, leaf, fork, plain, root, Part}
 use Rattle.laid.specs.Laid as laid
-use Rattle.history.specs.Edits.{Content, Edit, list_of, content_of}
+use Rattle.history.specs.Edits.{Edit, list_of, content_of}
 use Rattle.history.proofs.Sound.{version_sound}
 use Rattle.nodes.specs.declared.node.Node.{Node}
 use Rattle.nodes.specs.Holding.{Holds, Counted, node_of}
 use Rattle.nodes.specs.Views.{blocks_in}
-use Rattle.questions.specs.Readings.{readings_of, Small, Stands, readings_in}
+use Rattle.questions.specs.Readings.{Small, Stands, readings_in}
 use Rattle.questions.proofs.Readings.{small_next, small_below, small_after, readings_counted, summary_held}
 use Rattle.questions.proofs.Counts.{counted_next, counted_below, counted_after, blocks_counted}
 use Rattle.questions.proofs.Held.{stands_node}
-use Rattle.archive.specs.Stands.{Tables, TablesStand}
 use Rattle.archive.proofs.Standing.{counted}
 use Rattle.archive.proofs.Roots.{small}
 use Rattle.runs.specs.Held.{HoldsAll, NodesHold}

@@ -1,16 +1,16 @@
 -- Calls that do what their contracts say are a run. Assumes nothing.
-use Rattle.std.proofs.Common.{◌≡◌, ℕ, List, [], ◌∷◌, ◌++◌, length, take, drop, Some, None, Ok, Err, Option, Result, sym, refl, ap, ◌∙◌, subst, arith}
+use Rattle.std.proofs.Common.{◌≡◌, List, [], ◌∷◌, ◌++◌, take, Some, None, Ok, Err, Option, Result, sym, refl, ap, ◌∙◌, subst}
 use Rattle.summary.specs.Summing.{Summing}
 use Rattle.store.specs.declared.cause.Cause.{Cause}
 use Rattle.history.specs.Edits.{Edit}
 use Rattle.archive.specs.declared.fault.EditFault.{EditFault}
 use Rattle.archive.specs.declared.table.Accepted.{Accepted}
 use Rattle.archive.specs.Stands.{Stands}
-use Rattle.archive.specs.Calling.{Archive, Asked, Answered, Standing, EditKept, EditAccepted, EditTold, RowRefused, asked_refusal, edit_asked}
+use Rattle.archive.specs.Calling.{Archive, Asked, Answered, Standing, EditKept, EditAccepted, EditTold, RowRefused, asked_refusal}
 use Rattle.runs.specs.declared.reply.Reply.{Reply}
-use Rattle.runs.specs.declared.reply.Reply.TheVariants.{Edited, Read, Spanned, Summed}
-use Rattle.runs.specs.Calls.{Wanted, edit, reading, span, summary, Bench, Did, Chain}
-use Rattle.runs.specs.Runs.{History, Step, one_more, after_edit, after, Run, RunsLawful}
+use Rattle.runs.specs.declared.reply.Reply.TheVariants.{Read, Spanned, Summed}
+use Rattle.runs.specs.Calls.{Wanted, edit, reading, span, summary, Bench, Did}
+use Rattle.runs.specs.Runs.{History, Step, one_more, after_edit, after, RunsLawful}
 
 module _ {R Q S : Type 0} (means : Summing R Q) (rows : S → List (List R)) (refuses : S → List R → Cause → Type 0) where
   -- a refusal leaves the archive standing as it did

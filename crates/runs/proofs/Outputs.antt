@@ -1,5 +1,5 @@
 -- A part of an output from a place on, and that part put back. Assumes nothing.
-use Rattle.std.proofs.Common.{◌≡◌, ℕ, ◌+◌, ◌-◌, ◌<◌, ◌≤◌, min, Bool, true, false, leb, List, [], ◌∷◌, ◌++◌, length, take, drop, Result, sym, refl, ap, ◌∙◌, subst, append-nil, arith, length-drop, drop_of_length-le, take_all, leb-false, leb-true}
+use Rattle.std.proofs.Common.{◌≡◌, ℕ, ◌-◌, min, Bool, true, false, leb, List, ◌++◌, length, take, drop, Result, sym, refl, ap, ◌∙◌, subst, append-nil, arith, length-drop, drop_of_length-le, take_all, leb-false, leb-true}
 use borrow.Rule.Slice.PartMut.{put_mid}
 use Rattle.summary.specs.Summing.{Summing}
 use Rattle.store.specs.declared.cause.Cause.{Cause}

@@ -1,5 +1,5 @@
 -- A chain of calls with one call more at its end, and the replies so far in a list of replies. Assumes nothing.
-use Rattle.std.proofs.Common.{◌≡◌, ℕ, zero, suc, ◌+◌, ◌<◌, ◌≤◌, List, [], ◌∷◌, ◌++◌, map, length, get_or, take, drop, set, sym, refl, ap, ◌∙◌, subst, arith, length-set}
+use Rattle.std.proofs.Common.{◌≡◌, ℕ, ◌+◌, ◌<◌, List, [], ◌∷◌, ◌++◌, map, length, get_or, take, drop, set, sym, refl, ap, ◌∙◌, subst, arith, length-set}
 use Rattle.std.proofs.lemmas.List.{take_more, take_more_set, take-map, map-append, drop-set-lt, drop-drop}
 use Rattle.summary.specs.Summing.{Summing}
 use Rattle.store.specs.declared.cause.Cause.{Cause}

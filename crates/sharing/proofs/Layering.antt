@@ -1,5 +1,5 @@
 -- What a layer does with a row is what a store may do. Assumes nothing.
-use Rattle.std.proofs.Common.{◌≡◌, ℕ, List, Some, None, Ok, Err, Result, refl}
+use Rattle.std.proofs.Common.{ℕ, List, Some, None, Ok, Err, Result, refl}
 use Rattle.store.specs.declared.cause.Cause.{Cause}
 use Rattle.store.specs.Interface.{Put, Taken, Placed}
 use Rattle.sharing.specs.declared.sharing.Sharing.{Sharing}

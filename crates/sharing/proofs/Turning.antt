@@ -1,5 +1,5 @@
 -- A table that is written round and round, looked through from the newest entry. Assumes nothing.
-use Rattle.std.proofs.Common.{◌≡◌, ℕ, zero, suc, ◌+◌, ◌-◌, ◌%◌, ◌<◌, ◌≤◌, min, ◌≢◌, ◌⊎◌, List, [], ◌∷◌, ◌++◌, map, reverse, length, get_or, take, drop, set, Some, None, sym, refl, ap, ◌∙◌, inl, inr, ⊎_elim, arith, length-append, length-drop, length-set, length-take}
+use Rattle.std.proofs.Common.{◌≡◌, ℕ, zero, suc, ◌+◌, ◌-◌, ◌%◌, ◌<◌, ◌≤◌, min, ◌≢◌, List, ◌∷◌, map, reverse, length, get_or, take, drop, set, Some, None, sym, ap, ◌∙◌, ⊎_elim, arith, length-append, length-drop, length-set, length-take}
 use Rattle.std.specs.List.{slice_get}
 use Rattle.std.proofs.lemmas.List.{length-reverse, get_or_append_left, get_or-append_right, get_or-reverse, get_or-take, get_or-drop, get_or-set_same, get_or-set_other, get_or-map, length-map, same_lists, take-map, take-take, take_all}
 use Rattle.std.proofs.lemmas.Option.{slice_get-get_or, slice_get_past}

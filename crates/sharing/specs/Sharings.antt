@@ -1,5 +1,5 @@
 -- The sharing layer: its list is the list below; a row that equals a remembered block is that block, and any other goes below. Assumes nothing.
-use Rattle.std.specs.Prelude.{◌≡◌, ℕ, List, [], ◌∷◌, take, Some, None, Ok, Err, Option, Result}
+use Rattle.std.specs.Prelude.{◌≡◌, ℕ, List, ◌∷◌, take, Some, None, Ok, Err, Option, Result}
 use Rattle.store.specs.declared.cause.Cause.{Cause}
 use Rattle.store.specs.Interface.{Put}
 use Rattle.sharing.specs.declared.recent.Recent.{Recent}

@@ -1,6 +1,5 @@
-use Rattle.std.proofs.Common.{◌≡◌, set, Some, None, Ok, Err, Option, sym, refl, ap, ◌∙◌, subst}
+use Rattle.std.proofs.Common.{set, refl, ap, ◌∙◌}
 use Rattle.std.proofs.lemmas.Result.{err_from_is_err_and}
-use Rattle.archive.specs.Editing.{ByRefusal}
 use Rattle.archive.proofs.Inserts.{answered, looked_err, looked_refused}
 use Rattle.archive.proofs.insert.insert_in.Goals as goal
 

@@ -1,4 +1,4 @@
-use Rattle.std.proofs.Common.{◌≡◌, suc, ◌+◌, ◌-◌, min, false, leb, length, Some, None, sym, ap, ◌∙◌, add-one, arith, leb-false}
+use Rattle.std.proofs.Common.{suc, ◌+◌, min, false, leb, length, Some, sym, ap, ◌∙◌, add-one, arith, leb-false}
 use Rattle.questions.specs.Paths.{PathCounted}
 use Rattle.archive.specs.Refusals.{later_fault}
 use Rattle.archive.proofs.Looks.{change_unknown, change_misplaced, insert_lost, change_refused, change_fine}

@@ -1,4 +1,4 @@
-use Rattle.std.proofs.Common.{◌≡◌, ◌+◌, ◌-◌, min, leb, length, sym, ap, ◌∙◌, arith, leb-false}
+use Rattle.std.proofs.Common.{◌+◌, min, leb, length, sym, ap, ◌∙◌, arith, leb-false}
 use Rattle.archive.specs.Refusals.{later_fault}
 use Rattle.archive.proofs.Looks.{insert_unknown, insert_misplaced, insert_lost, insert_refused, insert_fine}
 use Rattle.archive.proofs.Tried.{all_passed}

@@ -1,4 +1,4 @@
-use Rattle.std.proofs.Common.{◌≡◌, suc, ◌+◌, ◌-◌, min, false, leb, length, Some, None, sym, ap, ◌∙◌, add-one, arith, leb-false}
+use Rattle.std.proofs.Common.{suc, ◌-◌, min, false, leb, length, Some, None, sym, ap, ◌∙◌, add-one, arith, leb-false}
 use Rattle.questions.specs.Paths.{PathsCounted}
 use Rattle.archive.specs.Refusals.{later_fault}
 use Rattle.archive.proofs.Looks.{removal_unknown, removal_misplaced, removal_lost, removal_refused, removal_fine}

@@ -12,11 +12,11 @@ returns g c =
     let held = g.S.BlockStore.rows c.args.store.now in
     let versions = c.args.versions.now in
     let out = c.args.out.now in
-    let r = c.write-tables.result in
-    let after = c.write-tables.new.out in record {
-      left = writing_left (tables_bytes k held versions c.count.result) out r after c.write-tables.ensures;
+    let r = c.write_tables.result in
+    let after = c.write_tables.new.out in record {
+      left = writing_left (tables_bytes k held versions c.count.result) out r after c.write_tables.ensures;
       law = λ small h st.
           subst (λ journal. Writes journal out r after)
           (ap (tables_bytes k held versions) c.count.ensures ∙ journal_written g.Q.Summary.means g.S.BlockStore.rows g.S.BlockStore.refuses k small h (archive_of c.args.table.now versions c.args.store.now) st)
-          c.write-tables.ensures;
+          c.write_tables.ensures;
     }

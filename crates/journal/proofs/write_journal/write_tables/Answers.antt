@@ -10,12 +10,12 @@ returns g c =
     let k = coding g.Reading.Reading.coded g.Reading.Reading.wide g.Reading.Reading.bytes in
     let bytes = version_bytes k (g.S.BlockStore.rows c.args.store.now) in
     let out = c.args.out.now in
-    let records = c.above-first-records.result.now in
+    let records = c.above_first-records.result.now in
     let journal = tables_bytes k (g.S.BlockStore.rows c.args.store.now) c.args.versions.now c.args.count in
-    let told = ap (λ l. length (flat_map bytes l)) c.above-first-records.ensures in
-    let size = c.journal-size-total.ensures in
+    let told = ap (λ l. length (flat_map bytes l)) c.above_first-records.ensures in
+    let size = c.journal_size-total.ensures in
     let room = c.if-out-total.false in
-    let total : c.journal-size-total.result ≡ length journal = omega (arith, c.well-formed) in
-    let wrote = bytes_then out c.put.new.out c.write-versions.new.out 0 (1 ∷ 1 ∷ c.kind-code.result ∷ []) (flat_map bytes records) (omega arith) c.put.ensures c.write-versions.ensures in
-    whole_written journal out c.write-versions.new.out c.journal-size-total.result total (omega arith)
-    (wrote ∙ ap₂ (λ b l. over out 0 ((1 ∷ 1 ∷ b ∷ []) ++ flat_map bytes l)) c.kind-code.ensures c.above-first-records.ensures)
+    let total : c.journal_size-total.result ≡ length journal = omega (arith, c.well_formed) in
+    let wrote = bytes_then out c.put.new.out c.write_versions.new.out 0 (1 ∷ 1 ∷ c.kind_code.result ∷ []) (flat_map bytes records) (omega arith) c.put.ensures c.write_versions.ensures in
+    whole_written journal out c.write_versions.new.out c.journal_size-total.result total (omega arith)
+    (wrote ∙ ap₂ (λ b l. over out 0 ((1 ∷ 1 ∷ b ∷ []) ++ flat_map bytes l)) c.kind_code.ensures c.above_first-records.ensures)

@@ -1,4 +1,4 @@
-use Rattle.std.proofs.Common.{◌≡◌, ◌<◌, length, sym, ap, ◌∙◌, arith, take_all}
+use Rattle.std.proofs.Common.{◌<◌, length, sym, ap, ◌∙◌, arith, take_all}
 use Rattle.summary.specs.Summing.{summary_of}
 use Rattle.nodes.proofs.Rows.{row_more, row_there}
 use Rattle.nodes.proofs.makers.row_summary.Goals as goal

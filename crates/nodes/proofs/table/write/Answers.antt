@@ -1,4 +1,4 @@
-use Rattle.std.proofs.Common.{refl, arith}
+use Rattle.std.proofs.Common.{refl}
 use Rattle.nodes.proofs.Tables.{grown_set, nth_set_same}
 use Rattle.nodes.proofs.table.write.Goals as goal
 

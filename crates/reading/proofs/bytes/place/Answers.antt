@@ -1,4 +1,4 @@
-use Rattle.std.proofs.Common.{◌≡◌, ℕ, ◌+◌, ◌-◌, List, ◌++◌, length, take, drop, ap, ◌∙◌, arith, drop-drop, rules}
+use Rattle.std.proofs.Common.{◌≡◌, ℕ, ◌+◌, ◌-◌, List, ◌++◌, length, take, ap, arith, drop-drop}
 use borrow.Rule.Slice.PartMut.{put_mid}
 use Rattle.reading.specs.Bytes.{over}
 use Rattle.reading.proofs.bytes.place.Goals as goal

@@ -1,4 +1,4 @@
-use Rattle.std.proofs.Common.{◌≡◌, sym, ap, ◌∙◌}
+use Rattle.std.proofs.Common.{sym, ◌∙◌}
 use Rattle.runs.proofs.Beginnings.{carried}
 use Rattle.runs.proofs.running.begin_and_carry.Goals as goal
 

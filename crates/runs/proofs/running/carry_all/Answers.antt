@@ -1,4 +1,4 @@
-use Rattle.std.proofs.Common.{◌≡◌, ◌∙◌, arith}
+use Rattle.std.proofs.Common.{◌∙◌, arith}
 use Rattle.runs.specs.Calls.{wanted}
 use Rattle.runs.proofs.Replies.{so_far_more, so_far_all}
 use Rattle.runs.proofs.running.carry_all.Goals as goal

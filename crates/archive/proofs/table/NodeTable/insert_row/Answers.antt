@@ -1,7 +1,5 @@
-use Rattle.std.proofs.Common.{Ok, sym, refl, ap, ◌∙◌, subst}
-use Rattle.archive.specs.Calling.{EditDone, EditLaw}
-use Rattle.archive.specs.Calling as asked
-use Rattle.archive.proofs.Calls.{same_archive, archive, counted_by, insert_done, insert_ok, insert_err}
+use Rattle.std.proofs.Common.{refl, ap}
+use Rattle.archive.proofs.Calls.{same_archive, insert_done, insert_ok, insert_err}
 use Rattle.archive.proofs.table.NodeTable.insert_row.Goals as goal
 
 pub returns-in-Err : goal.returns-in-Err

@@ -1,4 +1,4 @@
-use Rattle.std.proofs.Common.{sym, refl, ap, ◌∙◌, subst}
+use Rattle.std.proofs.Common.{refl, ap}
 use Rattle.archive.proofs.Calls.{same_archive, removal_done, removal_ok, removal_err}
 use Rattle.archive.proofs.table.NodeTable.remove_block.Goals as goal
 

@@ -7,6 +7,6 @@ returns g c =
     record {
       loaded =
           loaded_from g.Q.Summary.means g.S.BlockStore.rows g.S.BlockStore.refuses _ c.args.nodes.now _ c.args.versions.now _ (record { used = c.begin-table.result.used; count = c.begin-table.result.count })
-          c.args.store.now c.args.area.now c.take-in-all-answer.new.area c.args.bytes.now c.take-in-all-answer.result _ c.begin-table.ensures.begun c.take-in-all-answer.ensures.law;
-      lender = c.take-in-all-answer.ensures.lender ∙ c.begin-table.ensures.lender;
+          c.args.store.now c.args.area.now c.take_in_all-answer.new.area c.args.bytes.now c.take_in_all-answer.result _ c.begin-table.ensures.begun c.take_in_all-answer.ensures.law;
+      lender = c.take_in_all-answer.ensures.lender ∙ c.begin-table.ensures.lender;
     }

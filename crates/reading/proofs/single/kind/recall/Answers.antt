@@ -1,6 +1,6 @@
-use Rattle.std.proofs.Common.{◌≡◌, ℕ, ◌^◌, ◌<◌, length, get_or, sym, refl, ap, ◌∙◌, arith, lit<, leb-false, leb-true}
+use Rattle.std.proofs.Common.{◌≡◌, length, sym, ap, ◌∙◌, arith, lit<, leb-false, leb-true}
 use Rattle.reading.specs.Restoring.{restored_single, single_from}
-use Rattle.reading.specs.Digits.{four_listed, of_four}
+use Rattle.reading.specs.Digits.{four_listed}
 use Rattle.reading.specs.Restored.{single_other, single_of}
 use Rattle.reading.proofs.single.kind.recall.Goals as goal
 use Rattle.reading.proofs.single.kind.recall.Goals.{in_default-via-then-from-lt4, in_default-via-else-from-lt4+else-from-lt5}

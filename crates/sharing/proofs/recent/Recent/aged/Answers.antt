@@ -1,4 +1,4 @@
-use Rattle.std.proofs.Common.{sym, arith}
+use Rattle.std.proofs.Common.{sym}
 use Rattle.sharing.specs.Remembering.{backwards}
 use Rattle.sharing.specs.declared.recent.Entry.{Entry}
 use Rattle.sharing.proofs.Turning.{read_aged, past_aged}
