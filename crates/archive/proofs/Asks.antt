@@ -1,7 +1,7 @@
 -- What the questions answer on tables that stand. Assumes nothing.
 use Rattle.std.proofs.Common.{◌≡◌, ℕ, suc, ◌-◌, ◌<◌, ◌≤◌, cond, ltb, leb, List, [], ◌∷◌, map, length, Some, None, Ok, Err, sym, refl, ap, ◌∙◌, ap₂, arith, length-append, le-ltb, le-leb}
 use borrow.Author.Tests.{lt-leb}
-use Rattle.std.specs.List.{slice_get, AllByRecursion as All}
+use Rattle.std.specs.List.{slice_get, AllByRecursion}
 use Rattle.std.proofs.lemmas.Option.{slice_get_past}
 use Rattle.std.proofs.lemmas.Bool.{cond-true, cond-false}
 use Rattle.summary.specs.Summing.{Summing}
@@ -44,12 +44,12 @@ module _ {R : Type 0} where
       cond-false (ltb p 0) 0 (suc (row_with rows (p - 0))) (le-ltb p 0 (omega arith)) ∙ ap (λ q. suc (row_with rows q)) none
 
   module _ (es : List (Edit R)) where
-    rows_known : (xs : List (Item R)) → All (Known es) xs → map (λ a. (content_of es a).row) (identities_of xs) ≡ rows_in xs
+    rows_known : (xs : List (Item R)) → AllByRecursion (Known es) xs → map (λ a. (content_of es a).row) (identities_of xs) ≡ rows_in xs
     rows_known [] k = refl
     rows_known (x ∷ xs) k = ap₂ (λ row rows. row ∷ rows) (ap (λ c. c.row) k.0.holds) (rows_known xs k.1)
 
     -- the tree of a list of known blocks: the lead's row, which is empty, then the list's rows
-    module _ (xs : List (Item R)) (t : Laid) (shaped : FlexList 0 (blocks_of xs) (plain t)) (known : All (Known es) xs) where
+    module _ (xs : List (Item R)) (t : Laid) (shaped : FlexList 0 (blocks_of xs) (plain t)) (known : AllByRecursion (Known es) xs) where
       pub rows_are : rows_of (content_of es) t ≡ [] ∷ rows_in xs
       rows_are =
           ap (λ ids. map (λ a. (content_of es a).row) ids) (tree_ids xs (plain t) shaped)

@@ -1,5 +1,6 @@
 -- From the edits over plain slices to the edits on a node table. Assumes nothing.
-use Rattle.std.proofs.Common.{◌≡◌, ℕ, suc, ◌+◌, ◌-◌, ◌<◌, leb, List, length, Some, None, Ok, Err, Option, Result, sym, refl, ap, ◌∙◌, subst, arith, ltb-false, leb-false}
+use Rattle.std.proofs.Common.{◌≡◌, ℕ, suc, ◌+◌, ◌-◌, ◌<◌, ◌≤◌, ◌⊎◌, inl, inr, leb, List, ◌∷◌, length, Some, None, Ok, Err, Option, Result, sym, refl, ap, ◌∙◌, subst, arith, ltb-false, leb-false}
+use native.Mathlib.Decide.{dec_le}
 use Rattle.std.proofs.lemmas.Bool.{cond-true}
 use Rattle.summary.specs.Summing.{Summing}
 use Rattle.store.specs.declared.cause.Cause.{Cause}
@@ -21,12 +22,14 @@ use Rattle.archive.specs.Stands.{Tables, Stands}
 use Rattle.archive.specs.Looking.{in_use}
 use Rattle.archive.specs.Refusals.{insert_refusal, change_refusal, removal_refusal}
 use Rattle.archive.specs.Editing.{ByRefusal, RowEditLeft, RowAccepted, InsertLaw, ChangeLaw, RemovalDone, RemovalAccepted, RemovalLaw}
-use Rattle.archive.specs.Calling.{Asked, Archive, Answered, EditDone, EditKept, Standing, EditAccepted, EditTold, EditLaw, ReadingTold, SpanTold, SummaryTold}
+use Rattle.archive.specs.Records.{edit_of, edits_before}
+use Rattle.archive.specs.Calling.{Asked, Archive, Answered, EachInPlace, StandsInPlace, EditDone, EditKept, Standing, EditAccepted, EditTold, EditLaw, ReadingTold, SpanTold, SummaryTold}
 use Rattle.archive.specs.Asking.{ReadingLaw, SpanLeft, SpanLaw, SummaryLaw}
 use Rattle.archive.specs.Calling as asked
 use Rattle.archive.proofs.Inserts.{sub_is}
 use Rattle.archive.proofs.Looks.{found, not_found}
 use Rattle.archive.proofs.Tried.{passed}
+use Rattle.archive.proofs.Later.{same_some, edit_later, before_later, edit_new, before_new, edit_past}
 
 -- the archive that a table of nodes, its counts, a table of versions and a store are
 abbrev pub archive : {Q S : Type 0} → List (Node Q) → ℕ → List Version → ℕ → S → Archive Q S
@@ -50,6 +53,19 @@ still_accepted None b x accepted accepts refused h k = k refl h
 -- what an edit answers, by what its walk built
 abbrev pub counted_by : ℕ → ℕ → Built → Accepted
 counted_by count used b = record { version = count; written = b.used - used }
+
+-- one edit more at a place of its base's list
+module _ {R : Type 0} (es : List (Edit R)) (e : Edit R) where
+  older_or_new : (v : ℕ) → v ≤ suc (length es) → (v ≤ length es) ⊎ (v ≡ suc (length es))
+  older_or_new v h = elim (dec_le v (length es)) [ yes i ↦ inl i | no i ↦ inr (omega arith) ]
+
+  pub one_more_in_place : EachInPlace es → InPlace es e → EachInPlace (e ∷ es)
+  one_more_in_place placed there v f q =
+      elim (older_or_new v (edit_past (e ∷ es) v f q)) [
+        | inl h ↦ subst (λ past. InPlace past f) (sym (before_later e es v h)) (placed v f (sym (edit_later e es v h) ∙ q))
+        | inr h ↦ (let same : e ≡ f = same_some e f (sym (edit_new e es) ∙ ap (edit_of (e ∷ es)) (sym h) ∙ q) in
+            subst (λ past. InPlace past f) (sym (ap (edits_before (e ∷ es)) h ∙ before_new e es)) (subst (InPlace es) same there))
+      ]
 
 -- the place of an edit that no refusal met is one of the base's
 module _ {R Q : Type 0} (t : Tables Q) (es : List (Edit R)) where
@@ -79,40 +95,40 @@ module _ {R Q S : Type 0} (means : Summing R Q) (rows : S → List (List R)) (re
     taken n p = record { fits = left.put.fits; some = left.put.some; most = left.put.most; placed = p }
 
     module _ (base place level : ℕ) (law : InsertLaw means rows refuses s.tables s.store base place level row (Ok b) nodes versions after) where
-      insert_accepted : (es : List (Edit R)) → Stands means rows es s.tables s.store → insert_refusal s.tables es base place level (length row) ≡ None
+      insert_accepted : (es : List (Edit R)) → StandsInPlace means rows refuses es s.tables s.store → insert_refusal s.tables es base place level (length row) ≡ None
           → RowAccepted means rows refuses es s.tables s.store (edits.Edit.insert base place level) row b nodes versions after
           → EditAccepted means rows refuses es s (asked.Asked.insert base place level row) (counted_by s.tables.count s.tables.used b) (archive nodes b.used versions (s.tables.count + 1) after)
       insert_accepted es st none acc = record {
         number = acc.number;
-        version = st.tables.counted;
+        version = st.stands.tables.counted;
         written = sub_is b.used s.tables.used _ acc.written;
         growth = done_growth;
         bounded = edits_bounded es (edits.Edit.insert base place level (record { number = acc.number; row = row })) (insert_in_place s.tables es base place level (record { number = acc.number; row = row }) none);
         put = taken acc.number acc.put;
-        stands = acc.stands;
+        stands = record { stands = acc.stands; placed = one_more_in_place es (edits.Edit.insert base place level (record { number = acc.number; row = row })) st.placed (insert_in_place s.tables es base place level (record { number = acc.number; row = row }) none) };
       }
 
       pub insert_ok : base < s.tables.count → EditLaw means rows refuses s (asked.Asked.insert base place level row) (Ok (counted_by s.tables.count s.tables.used b)) (archive nodes b.used versions (s.tables.count + 1) after)
       insert_ok l None st = absurd (omega arith)
-      insert_ok l (Some es) st = still_accepted (insert_refusal s.tables es base place level (length row)) b (counted_by s.tables.count s.tables.used b) _ _ _ (law es st) (insert_accepted es st)
+      insert_ok l (Some es) st = still_accepted (insert_refusal s.tables es base place level (length row)) b (counted_by s.tables.count s.tables.used b) _ _ _ (law es st.stands) (insert_accepted es st)
 
     module _ (base place : ℕ) (law : ChangeLaw means rows refuses s.tables s.store base place row (Ok b) nodes versions after) where
-      change_accepted : (es : List (Edit R)) → Stands means rows es s.tables s.store → change_refusal s.tables es base place (length row) ≡ None
+      change_accepted : (es : List (Edit R)) → StandsInPlace means rows refuses es s.tables s.store → change_refusal s.tables es base place (length row) ≡ None
           → RowAccepted means rows refuses es s.tables s.store (edits.Edit.change base place) row b nodes versions after
           → EditAccepted means rows refuses es s (asked.Asked.change base place row) (counted_by s.tables.count s.tables.used b) (archive nodes b.used versions (s.tables.count + 1) after)
       change_accepted es st none acc = record {
         number = acc.number;
-        version = st.tables.counted;
+        version = st.stands.tables.counted;
         written = sub_is b.used s.tables.used _ acc.written;
         growth = done_growth;
         bounded = edits_bounded es (edits.Edit.change base place (record { number = acc.number; row = row })) (change_in_place s.tables es base place (record { number = acc.number; row = row }) none);
         put = taken acc.number acc.put;
-        stands = acc.stands;
+        stands = record { stands = acc.stands; placed = one_more_in_place es (edits.Edit.change base place (record { number = acc.number; row = row })) st.placed (change_in_place s.tables es base place (record { number = acc.number; row = row }) none) };
       }
 
       pub change_ok : base < s.tables.count → EditLaw means rows refuses s (asked.Asked.change base place row) (Ok (counted_by s.tables.count s.tables.used b)) (archive nodes b.used versions (s.tables.count + 1) after)
       change_ok l None st = absurd (omega arith)
-      change_ok l (Some es) st = still_accepted (change_refusal s.tables es base place (length row)) b (counted_by s.tables.count s.tables.used b) _ _ _ (law es st) (change_accepted es st)
+      change_ok l (Some es) st = still_accepted (change_refusal s.tables es base place (length row)) b (counted_by s.tables.count s.tables.used b) _ _ _ (law es st.stands) (change_accepted es st)
 
   -- a removal
   module _ (b : Built) (left : RemovalDone s.tables b nodes versions) (base place : ℕ) where
@@ -123,38 +139,38 @@ module _ {R Q S : Type 0} (means : Summing R Q) (rows : S → List (List R)) (re
     removal_done = record { version = refl; counted = refl; growth = removal_growth; sized = sized; grown = left.grown; noted = left.version; recorded = left.recorded; number = 0; put = refl }
 
     module _ (law : RemovalLaw means rows s.tables s.store base place (Ok b) nodes versions) where
-      removal_accepted : (es : List (Edit R)) → Stands means rows es s.tables s.store → removal_refusal s.tables es base place ≡ None → RemovalAccepted means rows es s.tables s.store base place b nodes versions
+      removal_accepted : (es : List (Edit R)) → StandsInPlace means rows refuses es s.tables s.store → removal_refusal s.tables es base place ≡ None → RemovalAccepted means rows es s.tables s.store base place b nodes versions
           → EditAccepted means rows refuses es s (asked.Asked.removal base place) (counted_by s.tables.count s.tables.used b) (archive nodes b.used versions (s.tables.count + 1) s.store)
       removal_accepted es st none acc = record {
         number = 0;
-        version = st.tables.counted;
+        version = st.stands.tables.counted;
         written = sub_is b.used s.tables.used _ acc.written;
         growth = removal_growth;
         bounded = edits_bounded es (edits.Edit.removal base place) (removal_in_place s.tables es base place none);
         put = refl;
-        stands = acc.stands;
+        stands = record { stands = acc.stands; placed = one_more_in_place es (edits.Edit.removal base place) st.placed (removal_in_place s.tables es base place none) };
       }
 
       pub removal_ok : base < s.tables.count → EditLaw means rows refuses s (asked.Asked.removal base place) (Ok (counted_by s.tables.count s.tables.used b)) (archive nodes b.used versions (s.tables.count + 1) s.store)
       removal_ok l None st = absurd (omega arith)
-      removal_ok l (Some es) st = still_accepted (removal_refusal s.tables es base place) b (counted_by s.tables.count s.tables.used b) _ _ _ (law es st) (removal_accepted es st)
+      removal_ok l (Some es) st = still_accepted (removal_refusal s.tables es base place) b (counted_by s.tables.count s.tables.used b) _ _ _ (law es st.stands) (removal_accepted es st)
 
 -- a refusal
 module _ {R Q S : Type 0} (means : Summing R Q) (rows : S → List (List R)) (refuses : S → List R → Cause → Type 0) (s t : Archive Q S) (nodes : List (Node Q)) (versions : List Version) (after : S) (f : EditFault) where
   pub insert_err : (base place level : ℕ) (row : List R) → InsertLaw means rows refuses s.tables s.store base place level row (Err f) nodes versions after → base < s.tables.count
       → EditLaw means rows refuses s (asked.Asked.insert base place level row) (Err f) t
   insert_err base place level row law l None st = absurd (omega arith)
-  insert_err base place level row law l (Some es) st = still_refused (insert_refusal s.tables es base place level (length row)) f _ _ _ (law es st)
+  insert_err base place level row law l (Some es) st = still_refused (insert_refusal s.tables es base place level (length row)) f _ _ _ (law es st.stands)
 
   pub change_err : (base place : ℕ) (row : List R) → ChangeLaw means rows refuses s.tables s.store base place row (Err f) nodes versions after → base < s.tables.count
       → EditLaw means rows refuses s (asked.Asked.change base place row) (Err f) t
   change_err base place row law l None st = absurd (omega arith)
-  change_err base place row law l (Some es) st = still_refused (change_refusal s.tables es base place (length row)) f _ _ _ (law es st)
+  change_err base place row law l (Some es) st = still_refused (change_refusal s.tables es base place (length row)) f _ _ _ (law es st.stands)
 
   pub removal_err : (base place : ℕ) → RemovalLaw means rows s.tables s.store base place (Err f) nodes versions → base < s.tables.count
       → EditLaw means rows refuses s (asked.Asked.removal base place) (Err f) t
   removal_err base place law l None st = absurd (omega arith)
-  removal_err base place law l (Some es) st = still_refused (removal_refusal s.tables es base place) f _ _ _ (law es st)
+  removal_err base place law l (Some es) st = still_refused (removal_refusal s.tables es base place) f _ _ _ (law es st.stands)
 
 -- what is accepted may be said in other words
 answered_as : {A : Type 0} (o : Option EditFault) (r : Result A EditFault) (accepted accepts : A → Type 0) (refused : Cause → Type 0) → ((x : A) → accepted x → accepts x) → Answered o r accepted refused → Answered o r accepts refused
@@ -193,7 +209,7 @@ module _ {R Q S : Type 0} (means : Summing R Q) (rows : S → List (List R)) (re
       → EditLaw means rows refuses s (asked.Asked.insert base from.blocks 0 row) r t → EditLaw means rows refuses s (asked.Asked.append base row) r t
   append_law from r q law None st = law None st
   append_law from r q law (Some es) st =
-      let blocks = (found means s.tables es st.tables base from q).told_of.blocks_is in
+      let blocks = (found means s.tables es st.stands.tables base from q).told_of.blocks_is in
       let there : EditTold means rows refuses (Some es) s (asked.Asked.insert base (length (list_of es base)) 0 row) r t =
       subst (λ p. EditTold means rows refuses (Some es) s (asked.Asked.insert base p 0 row) r t) blocks (law (Some es) st) in
       answered_as (insert_refusal s.tables es base (length (list_of es base)) 0 (length row)) r _ _ _ (append_accepted es) there
@@ -202,7 +218,7 @@ module _ {R Q S : Type 0} (means : Summing R Q) (rows : S → List (List R)) (re
   append_unknown q None st = refl
   append_unknown q (Some es) st =
       subst (λ p. Answered p (Err fault.Version) (λ x. EditAccepted means rows refuses es s (asked.Asked.append base row) x t) (refuses s.store row))
-      (sym (cond-true (leb (suc (length es)) base) (Some fault.Version) _ (not_found means s.tables es st.tables base q))) refl
+      (sym (cond-true (leb (suc (length es)) base) (Some fault.Version) _ (not_found means s.tables es st.stands.tables base q))) refl
 
 -- the questions, by the history
 module _ {R Q S : Type 0} (means : Summing R Q) (rows : S → List (List R)) (refuses : S → List R → Cause → Type 0) (lent nodes : List (Node Q)) (same : lent ≡ nodes) (used : ℕ) (versions : List Version) (count : ℕ) (store : S) (v : ℕ) where
@@ -212,14 +228,14 @@ module _ {R Q S : Type 0} (means : Summing R Q) (rows : S → List (List R)) (re
   pub reading_asked : (position : ℕ) (r : Result (Answer R) ReadFault) → (count ≡ 0 → r ≡ Err unread.Version) → ReadingLaw means rows lent versions count store v position r
       → ReadingTold means rows refuses (archive nodes used versions count store) v position r
   reading_asked position r none law None st = none st
-  reading_asked position r none law (Some es) st = law es used (as_lent es st)
+  reading_asked position r none law (Some es) st = law es used (as_lent es st.stands)
 
   pub span_asked : (a b : ℕ) (out after : List R) (r : Result ℕ ReadFault) → (count ≡ 0 → r ≡ Err unread.Version) → SpanLeft a b out r after → SpanLaw means rows lent versions count store v a b out r after
       → SpanTold means rows refuses (archive nodes used versions count store) v a b out r after
   span_asked a b out after r none left law None st = (none st, subst (λ x. SpanLeft a b out x after) (none st) left)
-  span_asked a b out after r none left law (Some es) st = law es used (as_lent es st)
+  span_asked a b out after r none left law (Some es) st = law es used (as_lent es st.stands)
 
   pub summary_asked : (a b : ℕ) (r : Result Q ReadFault) → (count ≡ 0 → r ≡ Err unread.Version) → SummaryLaw means rows lent versions count store v a b r
       → SummaryTold means rows refuses (archive nodes used versions count store) v a b r
   summary_asked a b r none law None st = none st
-  summary_asked a b r none law (Some es) st = law es used (as_lent es st)
+  summary_asked a b r none law (Some es) st = law es used (as_lent es st.stands)

@@ -1,6 +1,6 @@
 -- A change, from what its look, its put, its walk and its record leave. Assumes nothing.
 use Rattle.std.proofs.Common.{◌≡◌, ℕ, suc, ◌+◌, ◌-◌, ◌≤◌, false, List, [], ◌∷◌, ◌++◌, length, take, drop, set, Some, Ok, sym, refl, ap, ◌∙◌, subst, arith, length-append, take-append-drop, leb-false}
-use Rattle.std.specs.List.{slice_get, AllByRecursion as All}
+use Rattle.std.specs.List.{slice_get, AllByRecursion}
 use Rattle.std.proofs.ByRecursion.{All-append, All-take, All-drop}
 use Rattle.summary.specs.Summing.{Summing}
 use Rattle.store.specs.declared.cause.Cause.{Cause}
@@ -35,11 +35,11 @@ use Rattle.archive.proofs.Inserts.{looked_ok, looked_accepted, sub_is, placed_ke
 use Rattle.archive.proofs.Roots.{root_blocks, root_readings}
 
 module _ {R : Type 0} where
-  all_first_changed : (P : Item R → Type 0) (n : ℕ) (c : Content R) → ((x : Item R) → P x → P (record { identity = n; level = x.level; content = c })) → (ds : List (Item R)) → All P ds → All P (first_changed n c ds)
+  all_first_changed : (P : Item R → Type 0) (n : ℕ) (c : Content R) → ((x : Item R) → P x → P (record { identity = n; level = x.level; content = c })) → (ds : List (Item R)) → AllByRecursion P ds → AllByRecursion P (first_changed n c ds)
   all_first_changed P n c f [] h = tt
   all_first_changed P n c f (x ∷ ds) h = (f x h.0, h.1)
 
-  all_changed : (P : Item R → Type 0) (n p : ℕ) (c : Content R) (xs : List (Item R)) → ((x : Item R) → P x → P (record { identity = n; level = x.level; content = c })) → All P xs → All P (take p xs ++ first_changed n c (drop p xs))
+  all_changed : (P : Item R → Type 0) (n p : ℕ) (c : Content R) (xs : List (Item R)) → ((x : Item R) → P x → P (record { identity = n; level = x.level; content = c })) → AllByRecursion P xs → AllByRecursion P (take p xs ++ first_changed n c (drop p xs))
   all_changed P n p c xs f h = All-append P (take p xs) (first_changed n c (drop p xs)) (All-take P p xs h) (all_first_changed P n c f (drop p xs) (All-drop P p xs h))
 
   length_first_changed : (n : ℕ) (c : Content R) (ds : List (Item R)) → length (first_changed n c ds) ≡ length ds
@@ -99,11 +99,11 @@ module _ {R Q S : Type 0} (means : Summing R Q) (rows : S → List (List R)) (re
         let mw : made plan ≡ written_by es e = made_is means s es tb e from b plan planned (rows after) in
         let up : next ≡ s.used + made plan = out.used_up in
         let fits = tb.nodes_fit in
-        let fair : All Fair (next_list es e) = all_changed Fair (suc (length es)) place new xs (λ x h. record { level = h.level; some = p.some; most = p.most }) w.fair in
+        let fair : AllByRecursion Fair (next_list es e) = all_changed Fair (suc (length es)) place new xs (λ x h. record { level = h.level; some = p.some; most = p.most }) w.fair in
         let long = length_changed (suc (length es)) place new xs in
         let many = w.few in
         let few : length (next_list es e) ≤ 500 = omega arith in
-        let known : All (Known (e ∷ es)) (next_list es e) = subst (All (Known (e ∷ es))) (list_new e es) (version_sound (e ∷ es) (suc (length es))).known in
+        let known : AllByRecursion (Known (e ∷ es)) (next_list es e) = subst (AllByRecursion (Known (e ∷ es))) (list_new e es) (version_sound (e ∷ es) (suc (length es))).known in
         let shaped = laid_shape es e b.tree plan s.used w.shaped w.own w.under planned in
         let blocks : some_blocks ≡ length (next_list es e) = blocks_read ∙ root_blocks (e ∷ es) (next_list es e) (lay plan s.used) shaped known fair few means nodes at out.holds out.here in
         let readings : some_readings ≡ readings_in (next_list es e) = readings_read ∙ root_readings (e ∷ es) (next_list es e) (lay plan s.used) shaped known fair few means nodes at out.holds out.here in

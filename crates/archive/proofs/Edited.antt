@@ -1,6 +1,6 @@
 -- One accepted edit, from what its walk and its writes leave. Assumes nothing.
 use Rattle.std.proofs.Common.{◌≡◌, ℕ, suc, ◌+◌, ◌-◌, ◌<◌, ◌≤◌, eqb, List, ◌∷◌, length, set, Some, sym, refl, ap, ◌∙◌, subst, inr, arith, length-set, eq-eqb}
-use Rattle.std.specs.List.{AllByRecursion as All}
+use Rattle.std.specs.List.{AllByRecursion}
 use Rattle.std.proofs.lemmas.Bool.{cond-true}
 use Rattle.std.proofs.ByRecursion.{All-weaker}
 use Rattle.summary.specs.Summing.{Summing}
@@ -39,7 +39,7 @@ kept_spots base (new_leaf a x) k = kept_spots base x k
 kept_spots base (new_fork m x y) k = (kept_spots base x k.0, kept_spots base y k.1)
 
 module _ {R Q : Type 0} (means : Summing R Q) (s : Tables Q) (es : List (Edit R)) (st : TablesStand means es s) (e : Edit R) (from : Version) (b : BaseFound means s es st (base_of e) from) where
-  known : All (Known (e ∷ es)) (list_of es (base_of e))
+  known : AllByRecursion (Known (e ∷ es)) (list_of es (base_of e))
   known = All-weaker (Known es) (Known (e ∷ es)) (known_later e es) (list_of es (base_of e)) (version_sound es (base_of e)).known
 
   -- what the edit brings stands under its identity
@@ -76,7 +76,7 @@ module _ {R Q : Type 0} (means : Summing R Q) (s : Tables Q) (es : List (Edit R)
     -- the tables after the edit
     pub edit_stands : (after : List (Node Q)) (at next : ℕ) (v : Version) → LaidOut means rows (content_of (e ∷ es)) s.used plan after at next
         → Grown s.nodes s.used after next → length after ≡ length s.nodes → next ≤ node_limit s → s.count < version_limit s
-        → v ≡ edit_record es e (next_list es e) at → All Fair (next_list es e) → length (next_list es e) ≤ 500
+        → v ≡ edit_record es e (next_list es e) at → AllByRecursion Fair (next_list es e) → length (next_list es e) ≤ 500
         → TablesStand means (e ∷ es) (record { nodes = after; used = next; versions = set s.versions s.count v; count = s.count + 1 })
     edit_stands after at next v l g size fits room is fair few =
         let w = b.stands in

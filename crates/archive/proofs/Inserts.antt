@@ -2,7 +2,7 @@
 use Rattle.std.proofs.Common.{◌≡◌, ℕ, suc, ◌+◌, ◌-◌, ◌*◌, ◌%◌, ◌^◌, ◌<◌, ◌≤◌, List, [], ◌∷◌, ◌++◌, length, take, drop, set, Some, None, Ok, Err, Option, unwrap_or, sym, refl, ap, ◌∙◌, subst, mod-eq_of_lt, arith, length-append, length-drop, take-append-drop, length-take, ltb-false, leb-false}
 use native.Mathlib.Decide.{dec_le}
 use Rattle.std.proofs.lemmas.Option.{slice_get_past}
-use Rattle.std.specs.List.{slice_get, AllByRecursion as All}
+use Rattle.std.specs.List.{slice_get, AllByRecursion}
 use Rattle.std.proofs.ByRecursion.{All-weaker, All-append, All-take, All-drop}
 use Rattle.summary.specs.Summing.{Summing}
 use Rattle.store.specs.declared.cause.Cause.{Cause}
@@ -73,7 +73,7 @@ module _ {R : Type 0} where
       let b : readings_in xs ≡ readings_in (take p xs) + readings_in (drop p xs) = ap readings_in (sym (take-append-drop p xs)) ∙ readings_append (take p xs) (drop p xs) in
       omega arith
 
-  pub readings_few : (xs : List (Item R)) → All Fair xs → readings_in xs ≤ length xs * 1024
+  pub readings_few : (xs : List (Item R)) → AllByRecursion Fair xs → readings_in xs ≤ length xs * 1024
   unfolding readings_in
   readings_few [] h = omega arith
   readings_few (x ∷ xs) h = let ih = readings_few xs h.1 in let m = h.0.most in omega arith
@@ -85,7 +85,7 @@ module _ {R : Type 0} where
       let c = length-drop p xs in
       omega arith
 
-  pub all_between : (P : Item R → Type 0) (p : ℕ) (xs : List (Item R)) (x : Item R) → All P xs → P x → All P (take p xs ++ (x ∷ drop p xs))
+  pub all_between : (P : Item R → Type 0) (p : ℕ) (xs : List (Item R)) (x : Item R) → AllByRecursion P xs → P x → AllByRecursion P (take p xs ++ (x ∷ drop p xs))
   all_between P p xs x h k = All-append P (take p xs) (x ∷ drop p xs) (All-take P p xs h) (k, All-drop P p xs h)
 
   -- what stood in the list of rows still stands, and the row that was put too
@@ -162,7 +162,7 @@ module _ {R Q S : Type 0} (means : Summing R Q) (rows : S → List (List R)) (re
         let up : next ≡ s.used + made plan = out.used_up in
         let fits = tb.nodes_fit in
         let item : Item R = record { identity = suc (length es); level = level; content = new } in
-        let fair : All Fair (next_list es e) = all_between Fair place xs item w.fair (record { level = p.flat; some = p.some; most = p.most }) in
+        let fair : AllByRecursion Fair (next_list es e) = all_between Fair place xs item w.fair (record { level = p.flat; some = p.some; most = p.most }) in
         let long = length_between place xs item in_place in
         let few : length (next_list es e) ≤ 500 = omega arith in
         let blocks : (from.blocks + 1) % 2 ^ 32 ≡ length (next_list es e) = (let q = b.told_of.blocks_is in mod-eq_of_lt (omega arith) ∙ omega arith) in

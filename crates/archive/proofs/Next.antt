@@ -1,7 +1,7 @@
 -- The tables of an archive after one accepted edit more. Assumes nothing.
 use Rattle.std.proofs.Common.{◌≡◌, ℕ, suc, ◌+◌, ◌<◌, ◌≤◌, ◌⊎◌, List, [], ◌∷◌, ◌++◌, length, Some, sym, ap, ◌∙◌, subst, inl, inr, add-one, arith, length-append}
 use native.Mathlib.Decide.{dec_le}
-use Rattle.std.specs.List.{slice_get, AllByRecursion as All}
+use Rattle.std.specs.List.{slice_get, AllByRecursion}
 use Rattle.summary.specs.Summing.{Summing}
 use Rattle.flexlist.specs.Shape.{FlexList}
 use Rattle.flexlist.specs.Nodes.{identities, Among}
@@ -20,7 +20,7 @@ use Rattle.archive.proofs.Moved.{Agree, holds_moved}
 
 module _ {R Q : Type 0} (means : Summing R Q) where
   -- identities of a version were all given by its history
-  given_by : (es : List (Edit R)) (xs : List (Item R)) → All (Known es) xs → (i : ℕ) → Among i (0 ∷ identities_of xs) → i ≤ length es
+  given_by : (es : List (Edit R)) (xs : List (Item R)) → AllByRecursion (Known es) xs → (i : ℕ) → Among i (0 ∷ identities_of xs) → i ≤ length es
   given_by es xs k i (inl h) = omega arith
   given_by es [] k i (inr h) = absurd h
   given_by es (x ∷ xs) k i (inr (inl h)) = let g = k.0.given in omega arith
@@ -46,7 +46,7 @@ module _ {R Q : Type 0} (means : Summing R Q) where
           own = w.own;
           under = λ x k. let u = w.under x k in omega arith;
           recorded = m.versions_kept v low ∙ w.recorded ∙ ap Some (sym (record_later e es v (root o) h));
-          fair = subst (All Fair) (sym same) w.fair;
+          fair = subst (AllByRecursion Fair) (sym same) w.fair;
           few = subst (λ l. length l ≤ 500) (sym same) w.few;
         }
 
@@ -60,7 +60,7 @@ module _ {R Q : Type 0} (means : Summing R Q) where
           own = m.shared.own;
           under = λ x k. let h = m.shared.high x k in omega arith;
           recorded = ap (slice_get next.versions) (sym st.counted) ∙ m.version_new ∙ ap Some (sym (record_new e es (root t)));
-          fair = subst (All Fair) (sym new) m.fair;
+          fair = subst (AllByRecursion Fair) (sym new) m.fair;
           few = subst (λ l. length l ≤ 500) (sym new) m.few;
         }
 

@@ -1,6 +1,6 @@
 -- A plan for an edit, laid into the free entries, is by the sharing rule the tree of the version that the edit gives. Assumes nothing.
 use Rattle.std.proofs.Common.{◌≡◌, ℕ, suc, ◌+◌, ◌<◌, ◌≤◌, List, [], ◌∷◌, ◌++◌, length, take, drop, sym, refl, ap, ◌∙◌, subst, ap₂, inl, inr, add-one, arith, take-append-drop, drop-drop}
-use Rattle.std.specs.List.{AllByRecursion as All}
+use Rattle.std.specs.List.{AllByRecursion}
 use Rattle.std.proofs.lemmas.List.{map-append}
 use Rattle.flexlist.specs.Shape.{block, Tree, FlexList}
 use Rattle.flexlist.specs.Nodes.{identities, stretches, to_place, Among, Distinct}
@@ -49,11 +49,11 @@ module _ {R : Type 0} where
       let s = version_sound es v in
       subst (λ l. Distinct (suc (length es) ∷ l)) (sym (tree_ids (list_of es v) t f)) (new (list_of es v) s.known, (lead_apart (list_of es v) s.known, s.apart))
     where
-      new : (xs : List (Item R)) → All (Known es) xs → Among (suc (length es)) (0 ∷ identities_of xs) → ⊥
+      new : (xs : List (Item R)) → AllByRecursion (Known es) xs → Among (suc (length es)) (0 ∷ identities_of xs) → ⊥
       new xs k (inl h) = omega arith
       new xs k (inr h) = fresh es xs k h
 
-      lead_apart : (xs : List (Item R)) → All (Known es) xs → Among 0 (identities_of xs) → ⊥
+      lead_apart : (xs : List (Item R)) → AllByRecursion (Known es) xs → Among 0 (identities_of xs) → ⊥
       lead_apart [] k h = h
       lead_apart (x ∷ xs) k (inl h) = let g = k.0.some in omega arith
       lead_apart (x ∷ xs) k (inr h) = lead_apart xs k.1 h

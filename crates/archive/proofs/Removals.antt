@@ -1,6 +1,6 @@
 -- A removal, from what its look, its walk and its record leave. Assumes nothing.
 use Rattle.std.proofs.Common.{◌≡◌, ℕ, suc, ◌+◌, ◌-◌, ◌≤◌, false, List, ◌∷◌, ◌++◌, length, take, drop, set, Some, Ok, sym, ap, ◌∙◌, subst, arith, length-append, length-drop, length-take, leb-false}
-use Rattle.std.specs.List.{slice_get, AllByRecursion as All}
+use Rattle.std.specs.List.{slice_get, AllByRecursion}
 use Rattle.std.proofs.ByRecursion.{All-append, All-take, All-drop}
 use Rattle.summary.specs.Summing.{Summing}
 use Rattle.flexlist.specs.Building.{Plan, made}
@@ -44,7 +44,7 @@ module _ {R Q S : Type 0} (means : Summing R Q) (rows : S → List (List R)) (s 
     xs : List (Item R)
     xs = list_of es base
 
-    without : (P : Item R → Type 0) → All P xs → All P (take place xs ++ drop (suc place) xs)
+    without : (P : Item R → Type 0) → AllByRecursion P xs → AllByRecursion P (take place xs ++ drop (suc place) xs)
     without P h = All-append P (take place xs) (drop (suc place) xs) (All-take P place xs h) (All-drop P (suc place) xs h)
 
     accepted : RemovalAccepted means rows es s store base place (record { root = at; used = next }) nodes (set s.versions s.count noted)
@@ -75,13 +75,13 @@ module _ {R Q S : Type 0} (means : Summing R Q) (rows : S → List (List R)) (s 
         let mw : made plan ≡ written_by es e = made_is means s es tb e from b plan planned (rows store) in
         let up : next ≡ s.used + made plan = out.used_up in
         let fits = tb.nodes_fit in
-        let fair : All Fair (next_list es e) = without Fair w.fair in
+        let fair : AllByRecursion Fair (next_list es e) = without Fair w.fair in
         let many = w.few in
         let la = length-append (take place xs) (drop (suc place) xs) in
         let lt = length-take place xs in
         let ld = length-drop (suc place) xs in
         let few : length (next_list es e) ≤ 500 = omega arith in
-        let known : All (Known (e ∷ es)) (next_list es e) = subst (All (Known (e ∷ es))) (list_new e es) (version_sound (e ∷ es) (suc (length es))).known in
+        let known : AllByRecursion (Known (e ∷ es)) (next_list es e) = subst (AllByRecursion (Known (e ∷ es))) (list_new e es) (version_sound (e ∷ es) (suc (length es))).known in
         let shaped = laid_shape es e b.tree plan s.used w.shaped w.own w.under planned in
         let blocks : some_blocks ≡ length (next_list es e) = blocks_read ∙ root_blocks (e ∷ es) (next_list es e) (lay plan s.used) shaped known fair few means nodes at out.holds out.here in
         let readings : some_readings ≡ readings_in (next_list es e) = readings_read ∙ root_readings (e ∷ es) (next_list es e) (lay plan s.used) shaped known fair few means nodes at out.holds out.here in

@@ -1,6 +1,6 @@
 -- What the root of a version's tree counts: the blocks and the readings of its list. Assumes nothing.
 use Rattle.std.proofs.Common.{◌≡◌, ℕ, ◌≤◌, List, [], ◌∷◌, ◌++◌, map, length, refl, ap, ◌∙◌, arith, length-append}
-use Rattle.std.specs.List.{slice_get, AllByRecursion as All}
+use Rattle.std.specs.List.{slice_get, AllByRecursion}
 use Rattle.summary.specs.Summing.{Summing}
 use Rattle.flexlist.specs.Shape.{FlexList}
 use Rattle.laid.specs.Laid.{Laid, plain, root}
@@ -18,7 +18,7 @@ use Rattle.archive.proofs.Inserts.{readings_few}
 use Rattle.archive.proofs.Standing.{content_lead, counted, lead_empty, leaves_are}
 
 module _ {R : Type 0} (es : List (Edit R)) where
-  rows_length : (xs : List (Item R)) → All (Known es) xs → length (in_order (map (λ a. (content_of es a).row) (identities_of xs))) ≡ readings_in xs
+  rows_length : (xs : List (Item R)) → AllByRecursion (Known es) xs → length (in_order (map (λ a. (content_of es a).row) (identities_of xs))) ≡ readings_in xs
   unfolding readings_in
   rows_length [] k = refl
   rows_length (x ∷ xs) k =
@@ -26,7 +26,7 @@ module _ {R : Type 0} (es : List (Edit R)) where
       let here : length (content_of es x.identity).row ≡ length x.content.row = ap (λ c. length c.row) k.0.holds in
       length-append (content_of es x.identity).row (in_order (map (λ a. (content_of es a).row) (identities_of xs))) ∙ omega arith
 
-  module _ (xs : List (Item R)) (t : Laid) (shaped : FlexList 0 (blocks_of xs) (plain t)) (known : All (Known es) xs) (fair : All Fair xs) (many : length xs ≤ 500) where
+  module _ (xs : List (Item R)) (t : Laid) (shaped : FlexList 0 (blocks_of xs) (plain t)) (known : AllByRecursion (Known es) xs) (fair : AllByRecursion Fair xs) (many : length xs ≤ 500) where
     pub readings_long : length (readings_of (content_of es) t) ≡ readings_in xs
     readings_long =
         let c = content_of es in

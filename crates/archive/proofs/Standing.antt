@@ -1,7 +1,7 @@
 -- What a version that stands gives to the walks over its tree. Assumes nothing.
 use Rattle.std.proofs.Common.{◌≡◌, ℕ, suc, ◌≤◌, eqb, List, [], ◌∷◌, ◌++◌, length, sym, refl, ap, ◌∙◌, subst, inl, arith, ne_eqb}
 use lib.ListN.{length-map}
-use Rattle.std.specs.List.{AllByRecursion as All}
+use Rattle.std.specs.List.{AllByRecursion}
 use Rattle.std.proofs.lemmas.Bool.{cond-false}
 use Rattle.summary.specs.Summing.{Summing}
 use Rattle.flexlist.specs.Shape.{FlexList, Tree}
@@ -29,20 +29,20 @@ module _ {R : Type 0} where
 
   module _ (es : List (Edit R)) (P : Content R → Type 0) where
     -- what holds of each block's content holds of what its identity stands for
-    pub known_all : (xs : List (Item R)) → All (Known es) xs → All (λ x. P x.content) xs → All (λ i. P (content_of es i)) (identities_of xs)
+    pub known_all : (xs : List (Item R)) → AllByRecursion (Known es) xs → AllByRecursion (λ x. P x.content) xs → AllByRecursion (λ i. P (content_of es i)) (identities_of xs)
     known_all [] k h = tt
     known_all (x ∷ xs) k h = (subst P (sym k.0.holds) h.0, known_all xs k.1 h.1)
 
 module _ {R : Type 0} (rows : List (List R)) (c : ℕ → Content R) where
-  all_left : (P : ℕ → Type 0) (as' bs : List ℕ) → All P (as' ++ bs) → All P as'
+  all_left : (P : ℕ → Type 0) (as' bs : List ℕ) → AllByRecursion P (as' ++ bs) → AllByRecursion P as'
   all_left P [] bs h = tt
   all_left P (a ∷ as') bs h = (h.0, all_left P as' bs h.1)
 
-  all_right : (P : ℕ → Type 0) (as' bs : List ℕ) → All P (as' ++ bs) → All P bs
+  all_right : (P : ℕ → Type 0) (as' bs : List ℕ) → AllByRecursion P (as' ++ bs) → AllByRecursion P bs
   all_right P [] bs h = h
   all_right P (a ∷ as') bs h = all_right P as' bs h.1
 
-  pub tree_stored : (t : Laid) → All (λ i. Stored rows (c i)) (identities (plain t)) → AllStored rows c t
+  pub tree_stored : (t : Laid) → AllByRecursion (λ i. Stored rows (c i)) (identities (plain t)) → AllStored rows c t
   tree_stored (last e a) h = h.0
   tree_stored (leaf e a t) h = (h.0, tree_stored t h.1)
   tree_stored (fork e m x y) h =
@@ -51,12 +51,12 @@ module _ {R : Type 0} (rows : List (List R)) (c : ℕ → Content R) where
   abbrev Solid : ℕ → Type 0
   Solid i = 1 ≤ length (c i).row
 
-  leader_first : (t : Laid) (P : ℕ → Type 0) → All P (identities (plain t)) → P (leader t)
+  leader_first : (t : Laid) (P : ℕ → Type 0) → AllByRecursion P (identities (plain t)) → P (leader t)
   leader_first (last e a) P h = h.0
   leader_first (leaf e a t) P h = h.0
   leader_first (fork e m x y) P h = leader_first x P (all_left P (identities (plain x)) (identities (plain y)) h)
 
-  all_solid : (t : Laid) → All Solid (identities (plain t)) → BlocksAfter c t
+  all_solid : (t : Laid) → AllByRecursion Solid (identities (plain t)) → BlocksAfter c t
   all_solid (last e a) h = tt
   all_solid (leaf e a t) h = (leader_first t Solid h.1, all_solid t h.1)
   all_solid (fork e m x y) h =
@@ -64,7 +64,7 @@ module _ {R : Type 0} (rows : List (List R)) (c : ℕ → Content R) where
       let q = all_right Solid (identities (plain x)) (identities (plain y)) h in
       (all_solid x p, leader_first y Solid q, all_solid y q)
 
-  pub rest_solid : (t : Laid) → All Solid (tail_of (plain t)) → BlocksAfter c t
+  pub rest_solid : (t : Laid) → AllByRecursion Solid (tail_of (plain t)) → BlocksAfter c t
   unfolding tail_of
   rest_solid (last e a) h = tt
   rest_solid (leaf e a t) h = (leader_first t Solid h, all_solid t h)
@@ -85,7 +85,7 @@ root_spot (leaf e a t) = (record { stretch = a ∷ identities (plain t); entry =
 root_spot (fork e m x y) = (record { stretch = identities (plain x) ++ identities (plain y); entry = e }, inl refl, refl)
 
 -- a list of known blocks within the limits, and its laid tree
-module _ {R : Type 0} (es : List (Edit R)) (xs : List (Item R)) (t : Laid) (shaped : FlexList 0 (blocks_of xs) (plain t)) (known : All (Known es) xs) (fair : All Fair xs) (many : length xs ≤ 500) where
+module _ {R : Type 0} (es : List (Edit R)) (xs : List (Item R)) (t : Laid) (shaped : FlexList 0 (blocks_of xs) (plain t)) (known : AllByRecursion (Known es) xs) (fair : AllByRecursion Fair xs) (many : length xs ≤ 500) where
   ids : identities (plain t) ≡ 0 ∷ identities_of xs
   ids = tree_ids xs (plain t) shaped
 
@@ -103,7 +103,7 @@ module _ {R : Type 0} (es : List (Edit R)) (xs : List (Item R)) (t : Laid) (shap
   pub leaves_are : leaves (plain t) ≡ suc (length xs)
   leaves_are = long_enough shaped ∙ ap suc (length-map xs _)
 
-  fair_solid : (ys : List (Item R)) → All Fair ys → All (λ x. 1 ≤ length x.content.row) ys
+  fair_solid : (ys : List (Item R)) → AllByRecursion Fair ys → AllByRecursion (λ x. 1 ≤ length x.content.row) ys
   fair_solid [] h = tt
   fair_solid (y ∷ ys) h = (h.0.some, fair_solid ys h.1)
 
@@ -112,12 +112,12 @@ module _ {R : Type 0} (es : List (Edit R)) (xs : List (Item R)) (t : Laid) (shap
       let few = many in
       let n = leaves_are in
       record {
-        solid = rest_solid [] (content_of es) t (subst (All (λ i. 1 ≤ length (content_of es i).row)) (sym rest_is)
+        solid = rest_solid [] (content_of es) t (subst (AllByRecursion (λ i. 1 ≤ length (content_of es i).row)) (sym rest_is)
             (known_all es (λ k. 1 ≤ length k.row) xs known (fair_solid xs fair)));
         few = omega arith;
       }
 
-  always_stored : (rows : List (List R)) (ys : List (Item R)) → RowsStand rows ys → All (λ x. Stored rows x.content) ys
+  always_stored : (rows : List (List R)) (ys : List (Item R)) → RowsStand rows ys → AllByRecursion (λ x. Stored rows x.content) ys
   always_stored rows [] h = tt
   always_stored rows (y ∷ ys) h = ((λ _. h.0), always_stored rows ys h.1)
 
@@ -125,7 +125,7 @@ module _ {R : Type 0} (es : List (Edit R)) (xs : List (Item R)) (t : Laid) (shap
   lead_stored rows = subst (Stored rows) (sym (content_lead es)) (λ h. absurd (omega arith))
 
   pub in_store : (rows : List (List R)) → RowsStand rows xs → AllStored rows (content_of es) t
-  in_store rows h = tree_stored rows (content_of es) t (subst (All (λ i. Stored rows (content_of es i))) (sym ids)
+  in_store rows h = tree_stored rows (content_of es) t (subst (AllByRecursion (λ i. Stored rows (content_of es i))) (sym ids)
       (lead_stored rows, known_all es (Stored rows) xs known (always_stored rows xs h)))
 
   pub ready : {Q : Type 0} (means : Summing R Q) (rows : List (List R)) (nodes : List (Node Q)) (used : ℕ) → Holds means (content_of es) nodes t → Under used t → RowsStand rows xs

@@ -5,7 +5,7 @@ use Rattle.store.specs.declared.cause.Cause.{Cause}
 use Rattle.store.specs.Interface.{Taken}
 use Rattle.history.specs.Edits.{Content, Edit, list_of}
 use Rattle.history.specs.Edits as edits
-use Rattle.history.specs.Replay.{written_by, WithinBound}
+use Rattle.history.specs.Replay.{written_by, InPlace, WithinBound}
 use Rattle.nodes.specs.Holding.{Grown}
 use Rattle.questions.specs.declared.found.Answer.{Answer}
 use Rattle.archive.specs.declared.version.Version.{Version}
@@ -15,6 +15,7 @@ use Rattle.archive.specs.declared.fault.ReadFault.{ReadFault}
 use Rattle.archive.specs.declared.fault.ReadFault.TheVariants as unread
 use Rattle.archive.specs.declared.table.Accepted.{Accepted}
 use Rattle.archive.specs.declared.table.NodeTable.{NodeTable}
+use Rattle.archive.specs.Records.{edit_of, edits_before}
 use Rattle.archive.specs.Stands.{Tables, Stands}
 use Rattle.archive.specs.Refusals.{insert_refusal, change_refusal, removal_refusal}
 use Rattle.archive.specs.Asking.{reading_answer, span_answer, span_output, summary_answer}
@@ -49,6 +50,10 @@ module _ {R : Type 0} where
   asked_refusal t es (append base row) = insert_refusal t es base (length (list_of es base)) 0 (length row)
   asked_refusal t es (change base place row) = change_refusal t es base place (length row)
   asked_refusal t es (removal base place) = removal_refusal t es base place
+
+-- each edit's place is one of its base's list
+abbrev pub EachInPlace : {R : Type 0} → List (Edit R) → Type 0
+EachInPlace {R} es = (v : ℕ) (e : Edit R) → edit_of es v ≡ Some e → InPlace (edits_before es v) e
 
 -- an answer, by the first refusal of the replay, and by the store's where there is none
 abbrev pub Answered : {A : Type 0} → Option EditFault → Result A EditFault → (A → Type 0) → (Cause → Type 0) → Type 0
@@ -89,10 +94,15 @@ module _ {R Q S : Type 0} (means : Summing R Q) (rows : S → List (List R)) (re
   EditKept s asked (Ok x) t = EditDone s asked x t
   EditKept s asked (Err f) t = t ≡ s
 
+  -- the tables and the store stand for edits, each of which is at a place of its base's list
+  pub record StandsInPlace (es : List (Edit R)) (t : Tables Q) (store : S) : Type 0 where
+    pub stands : Stands means rows es t store
+    pub placed : EachInPlace es
+
   -- What stands: an archive after the edits of a history, the newest first; or one without versions, which has none.
   abbrev pub Standing : Option (List (Edit R)) → Archive Q S → Type 0
   Standing None s = s.tables.count ≡ 0
-  Standing (Some es) s = Stands means rows es s.tables s.store
+  Standing (Some es) s = StandsInPlace es s.tables s.store
 
   -- An accepted edit after the edits es: it answers the next version's number and as many nodes as the sharing rule counts, by which the table grew and
   -- which are within the bound of its paths; its row was put once; and the archive stands for one edit more.
@@ -103,7 +113,7 @@ module _ {R Q S : Type 0} (means : Summing R Q) (rows : S → List (List R)) (re
     pub growth : t.tables.used ≡ s.tables.used + x.written
     pub bounded : WithinBound es (edit_asked es asked number)
     pub put : RowPut s.store asked number t.store
-    pub stands : Stands means rows (edit_asked es asked number ∷ es) t.tables t.store
+    pub stands : StandsInPlace (edit_asked es asked number ∷ es) t.tables t.store
 
   -- an edit as the replay has it: without versions every edit is refused
   abbrev pub EditTold : Option (List (Edit R)) → Archive Q S → Asked R → Result Accepted EditFault → Archive Q S → Type 0

@@ -1,6 +1,6 @@
 -- What it means that tables and a store are those of an archive in which just these edits were accepted. Assumes nothing.
 use Rattle.std.specs.Prelude.{◌≡◌, ℕ, suc, ◌+◌, ◌<◌, ◌≤◌, min, List, length, Some}
-use Rattle.std.specs.List.{slice_get, AllByRecursion as All}
+use Rattle.std.specs.List.{slice_get, AllByRecursion}
 use Rattle.summary.specs.Summing.{Summing}
 use Rattle.flexlist.specs.Shape.{FlexList}
 use Rattle.laid.specs.Laid.{Laid, plain, root}
@@ -41,7 +41,7 @@ module _ {R Q : Type 0} (means : Summing R Q) where
     pub own : OwnEntries t
     pub under : Under s.used t
     pub recorded : slice_get s.versions v ≡ Some (record_of es v (root t))
-    pub fair : All Fair (list_of es v)
+    pub fair : AllByRecursion Fair (list_of es v)
     pub few : length (list_of es v) ≤ 500
 
   -- The tables stand for these edits, the newest first.
@@ -61,7 +61,7 @@ module _ {R Q : Type 0} (means : Summing R Q) where
 
 -- every block's row is the store's at its number
 abbrev pub RowsStand : {R : Type 0} → List (List R) → List (Item R) → Type 0
-RowsStand rows xs = All (λ x. slice_get rows x.content.number ≡ Some x.content.row) xs
+RowsStand rows xs = AllByRecursion (λ x. slice_get rows x.content.number ≡ Some x.content.row) xs
 
 -- The tables and the store, which means a list of rows, stand for these edits.
 pub record Stands {R Q S : Type 0} (means : Summing R Q) (rows : S → List (List R)) (es : List (Edit R)) (s : Tables Q) (store : S) : Type 0 where

@@ -1,6 +1,6 @@
 -- What an accepted edit owes, so that the tables stand for one edit more. Assumes nothing.
 use Rattle.std.specs.Prelude.{◌≡◌, ℕ, suc, ◌+◌, ◌<◌, ◌≤◌, List, ◌∷◌, length, Some}
-use Rattle.std.specs.List.{slice_get, AllByRecursion as All}
+use Rattle.std.specs.List.{slice_get, AllByRecursion}
 use Rattle.summary.specs.Summing.{Summing}
 use Rattle.flexlist.specs.Shape.{FlexList}
 use Rattle.laid.specs.Laid.{Laid, plain, root}
@@ -25,7 +25,7 @@ module _ {R Q : Type 0} (means : Summing R Q) where
     pub versions_fit : next.count ≤ version_limit next
     pub versions_kept : (k : ℕ) → k < s.count → slice_get next.versions k ≡ slice_get s.versions k
     pub version_new : slice_get next.versions s.count ≡ Some (edit_record es e (next_list es e) (root t))
-    pub fair : All Fair (next_list es e)
+    pub fair : AllByRecursion Fair (next_list es e)
     pub few : length (next_list es e) ≤ 500
 
   -- Tables that stand for some edits, and of which an accepted edit made what it owes, stand for these edits and that one.

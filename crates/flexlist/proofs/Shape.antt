@@ -1,6 +1,6 @@
 -- A FlexList is a tree whose levels fall along it, and every stretch has exactly one.
 use Rattle.std.proofs.Common.{◌≡◌, ℕ, zero, suc, ◌-◌, ◌<◌, ◌≤◌, cond, ltb, List, [], ◌∷◌, ◌++◌, map, sym, refl, ap, ◌∙◌, ap₂, subst₂, inl, arith}
-use Rattle.std.specs.List.{AllByRecursion as All}
+use Rattle.std.specs.List.{AllByRecursion}
 use Rattle.std.proofs.lemmas.Bool.{ltb-true, ltb-false, lt-ltb, le-ltb, cond_both, cond-true, cond-false}
 use Rattle.std.proofs.ByRecursion.{All-weaker, All-append}
 use Rattle.std.proofs.lemmas.List.{map-append}
@@ -46,7 +46,7 @@ top_cons b l k (leaf a t) h g = top_front b l k (leaf a t) h
 top_cons b l k (fork m s t) h g =
     cond_both (ltb k m) _ _ (λ x. top x ≤ b) (λ _. g) (λ _. top_front b l k (fork m s t) h)
 
-top_flex : (b l : ℕ) (bs : List Block) → All (λ x. x.level ≤ b) bs → top (flex l bs) ≤ b
+top_flex : (b l : ℕ) (bs : List Block) → AllByRecursion (λ x. x.level ≤ b) bs → top (flex l bs) ≤ b
 unfolding flex top
 top_flex b l [] h = omega arith
 top_flex b l (x ∷ bs) h = top_cons b l x.level (flex x.identity bs) h.0 (top_flex b x.identity bs h.1)
@@ -58,7 +58,7 @@ front_fork l (suc k) t p = refl
 
 flex_split :
     (l : ℕ) (xs : List Block) (j : Block) (ys : List Block) → 0 < j.level →
-    All (λ x. x.level < j.level) xs → All (λ x. x.level ≤ j.level) ys →
+    AllByRecursion (λ x. x.level < j.level) xs → AllByRecursion (λ x. x.level ≤ j.level) ys →
     flex l (xs ++ j ∷ ys) ≡ fork j.level (flex l xs) (flex j.identity ys)
 unfolding flex cons
 flex_split l [] j ys p h g =
@@ -107,7 +107,7 @@ flex_cells k (first_greatest xs j ys p h g f₁ f₂) = ap₂ ◌++◌ (flex_cel
 pub flex_identities : {l : ℕ} {bs : List Block} {t : Tree} → FlexList l bs t → identities t ≡ l ∷ map (λ b. b.identity) bs
 flex_identities {t = t} f = identities_cells 0 t ∙ ap (map (λ b. b.identity)) (flex_cells 0 f)
 
-flex_top : {l : ℕ} {bs : List Block} {t : Tree} (b : ℕ) → FlexList l bs t → All (λ x. x.level ≤ b) bs → top t ≤ b
+flex_top : {l : ℕ} {bs : List Block} {t : Tree} (b : ℕ) → FlexList l bs t → AllByRecursion (λ x. x.level ≤ b) bs → top t ≤ b
 flex_top {l} {bs} {t} b f h = rw (flex_only f) (top_flex b l bs h)
 
 pub flex_falls : {l : ℕ} {bs : List Block} {t : Tree} → FlexList l bs t → Falls t
@@ -150,7 +150,7 @@ cells_rest k (last a) = refl
 cells_rest k (leaf a t) = refl
 cells_rest k (fork m s t) = ap {B = List Block} (λ x. x ++ cells m t) (cells_rest k s)
 
-rest_low : (b : ℕ) (t : Tree) → Falls t → top t ≤ b → All (λ x. x.level ≤ b) (rest t)
+rest_low : (b : ℕ) (t : Tree) → Falls t → top t ≤ b → AllByRecursion (λ x. x.level ≤ b) (rest t)
 unfolding rest top
 rest_low b (last a) f h = tt
 rest_low b (leaf a t) f h = rw (cells_rest 0 t) (omega arith, rest_low b t f.1 (omega arith))

@@ -1,6 +1,6 @@
 -- The shape of a version: which tree is the FlexList of a stretch.
 use Rattle.std.specs.Prelude.{◌≡◌, ℕ, ◌<◌, ◌≤◌, List, [], ◌∷◌, ◌++◌}
-use Rattle.std.specs.List.{AllByRecursion as All}
+use Rattle.std.specs.List.{AllByRecursion}
 
 -- A block: an identity that tells it from every other, and its level.
 pub record Block : Type 0 where
@@ -21,10 +21,10 @@ pub data Tree : Type 0 where
 pub data FlexList : ℕ → List Block → Tree → Type 0 where
   alone : {leader : ℕ} → FlexList leader [] (last leader)
   level_0 : {leader : ℕ} {b : Block} {bs : List Block} {t : Tree} →
-      All (λ x. x.level ≡ 0) (b ∷ bs) →
+      AllByRecursion (λ x. x.level ≡ 0) (b ∷ bs) →
       FlexList b.identity bs t → FlexList leader (b ∷ bs) (leaf leader t)
   first_greatest : {leader : ℕ} (xs : List Block) (j : Block) (ys : List Block) {s t : Tree} →
-      0 < j.level → All (λ x. x.level < j.level) xs → All (λ x. x.level ≤ j.level) ys →
+      0 < j.level → AllByRecursion (λ x. x.level < j.level) xs → AllByRecursion (λ x. x.level ≤ j.level) ys →
       FlexList leader xs s → FlexList j.identity ys t → FlexList leader (xs ++ j ∷ ys) (fork j.level s t)
 
 -- Every stretch has exactly one FlexList, whatever the levels.

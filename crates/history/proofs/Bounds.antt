@@ -8,7 +8,7 @@ use Rattle.flexlist.specs.Sharing.{written}
 use Rattle.flexlist.proofs.Bounds.{insert_bound, removal_bound}
 use Rattle.flexlist.proofs.Exact.{change_bound}
 use Rattle.flexlist.proofs.Shape.{exactly_one, flex_identities}
-use Rattle.std.specs.List.{AllByRecursion as All}
+use Rattle.std.specs.List.{AllByRecursion}
 use Rattle.history.specs.Edits.{Known, Item, Edit, insert, change, removal, first_changed, list_of, blocks_of, identities_of}
 use Rattle.history.specs.Replay.{shape, path, two_paths, written_by, EditsBounded}
 use Rattle.history.proofs.Sound.{version_sound, fresh}
@@ -40,7 +40,7 @@ module _ {R : Type 0} where
       let ids : identities (shape xs) ≡ 0 ∷ identities_of xs = flex_identities (shape_is xs) ∙ ap (λ l. 0 ∷ l) (ids_blocks xs) in
       cases xs (version_sound es v).known (subst (Among (suc (length es))) ids h)
     where
-      cases : (xs : List (Item R)) → All (Known es) xs → Among (suc (length es)) (0 ∷ identities_of xs) → ⊥
+      cases : (xs : List (Item R)) → AllByRecursion (Known es) xs → Among (suc (length es)) (0 ∷ identities_of xs) → ⊥
       cases xs k (inl e) = omega arith
       cases xs k (inr a) = fresh es xs k a
 

@@ -1,6 +1,6 @@
 -- Every version of a history is sound. Assumes nothing.
 use Rattle.std.proofs.Common.{◌≡◌, ℕ, zero, suc, eqb, List, [], ◌∷◌, ◌++◌, length, take, drop, unwrap_or, sym, refl, ap, ◌∙◌, subst, inl, inr, add-one, arith, length-append, take-append-drop, drop-drop, eq-eqb, ne_eqb}
-use Rattle.std.specs.List.{slice_get, AllByRecursion as All}
+use Rattle.std.specs.List.{slice_get, AllByRecursion}
 use Rattle.std.proofs.lemmas.List.{map-append}
 use Rattle.std.proofs.ByRecursion.{All-weaker, All-append, All-push, All-take, All-drop}
 use Rattle.std.proofs.lemmas.Bool.{cond-true, cond-false}
@@ -29,17 +29,17 @@ module _ {R : Type 0} where
   known_new e es k = record { some = omega arith; given = omega arith; holds = cond-true (eqb (suc (length es)) (suc (length es))) _ _ (eq-eqb _ _ refl) }
 
   -- a new identity is none of those given before
-  pub fresh : (es : List (Edit R)) (xs : List (Item R)) → All (Known es) xs → Among (suc (length es)) (identities_of xs) → ⊥
+  pub fresh : (es : List (Edit R)) (xs : List (Item R)) → AllByRecursion (Known es) xs → Among (suc (length es)) (identities_of xs) → ⊥
   fresh es [] k h = h
   fresh es (x ∷ xs) k (inl h) = let g = k.0.given in omega arith
   fresh es (x ∷ xs) k (inr h) = fresh es xs k.1 h
 
-  module _ (e : Edit R) (es : List (Edit R)) (as' : List (Item R)) (known_as : All (Known es) as') where
-    later : (xs : List (Item R)) → All (Known es) xs → All (Known (e ∷ es)) xs
+  module _ (e : Edit R) (es : List (Edit R)) (as' : List (Item R)) (known_as : AllByRecursion (Known es) as') where
+    later : (xs : List (Item R)) → AllByRecursion (Known es) xs → AllByRecursion (Known (e ∷ es)) xs
     later xs k = All-weaker (Known es) (Known (e ∷ es)) (known_later e es) xs k
 
     -- a block that the edit makes, between two parts
-    made_between : (bs : List (Item R)) (k : ℕ) → All (Known es) bs → Distinct (identities_of as' ++ identities_of bs)
+    made_between : (bs : List (Item R)) (k : ℕ) → AllByRecursion (Known es) bs → Distinct (identities_of as' ++ identities_of bs)
         → Sound (e ∷ es) (as' ++ (record { identity = suc (length es); level = k; content = brought e } ∷ bs))
     made_between bs k known_bs d =
         let n = suc (length es) in
@@ -50,17 +50,17 @@ module _ {R : Type 0} where
           apart = subst Distinct (sym ids) (distinct_between n (identities_of as') (identities_of bs) d (fresh es as' known_as) (fresh es bs known_bs));
         }
 
-    kept : (bs : List (Item R)) → All (Known es) bs → Distinct (identities_of as' ++ identities_of bs) → Sound (e ∷ es) (as' ++ bs)
+    kept : (bs : List (Item R)) → AllByRecursion (Known es) bs → Distinct (identities_of as' ++ identities_of bs) → Sound (e ∷ es) (as' ++ bs)
     kept bs known_bs d = record {
       known = All-append (Known (e ∷ es)) as' bs (later as' known_as) (later bs known_bs);
       apart = subst Distinct (sym (map-append (λ y. y.identity) as' bs)) d;
     }
 
-    changed_first : (bs : List (Item R)) → All (Known es) bs → Distinct (identities_of as' ++ identities_of bs) → Sound (e ∷ es) (as' ++ first_changed (suc (length es)) (brought e) bs)
+    changed_first : (bs : List (Item R)) → AllByRecursion (Known es) bs → Distinct (identities_of as' ++ identities_of bs) → Sound (e ∷ es) (as' ++ first_changed (suc (length es)) (brought e) bs)
     changed_first [] known_bs d = kept [] known_bs d
     changed_first (x ∷ bs) known_bs d = made_between bs x.level known_bs.1 (distinct_without x.identity (identities_of as') (identities_of bs) d)
 
-    first_gone : (bs : List (Item R)) → All (Known es) bs → Distinct (identities_of as' ++ identities_of bs) → Sound (e ∷ es) (as' ++ drop 1 bs)
+    first_gone : (bs : List (Item R)) → AllByRecursion (Known es) bs → Distinct (identities_of as' ++ identities_of bs) → Sound (e ∷ es) (as' ++ drop 1 bs)
     first_gone [] known_bs d = kept [] known_bs d
     first_gone (x ∷ []) known_bs d = kept [] tt (distinct_without x.identity (identities_of as') [] d)
     first_gone (x ∷ y ∷ bs) known_bs d = kept (y ∷ bs) known_bs.1 (distinct_without x.identity (identities_of as') (identities_of (y ∷ bs)) d)
@@ -71,10 +71,10 @@ module _ {R : Type 0} where
       parts : (p : ℕ) → Distinct (identities_of (take p xs) ++ identities_of (drop p xs))
       parts p = subst Distinct (ap identities_of (sym (take-append-drop p xs)) ∙ map-append (λ y. y.identity) (take p xs) (drop p xs)) s.apart
 
-      front : (p : ℕ) → All (Known es) (take p xs)
+      front : (p : ℕ) → AllByRecursion (Known es) (take p xs)
       front p = All-take (Known es) p xs s.known
 
-      back : (p : ℕ) → All (Known es) (drop p xs)
+      back : (p : ℕ) → AllByRecursion (Known es) (drop p xs)
       back p = All-drop (Known es) p xs s.known
 
       sound_at : (f : Edit R) → Sound (f ∷ es) (done (suc (length es)) f xs)
@@ -89,7 +89,7 @@ module _ {R : Type 0} where
   sound_later e es xs s = record { known = All-weaker (Known es) (Known (e ∷ es)) (known_later e es) xs s.known; apart = s.apart }
 
   -- any version of sound ones is sound
-  sound_at : (es : List (Edit R)) (ls : List (List (Item R))) (v : ℕ) → All (Sound es) ls → Sound es (unwrap_or (slice_get ls v) [])
+  sound_at : (es : List (Edit R)) (ls : List (List (Item R))) (v : ℕ) → AllByRecursion (Sound es) ls → Sound es (unwrap_or (slice_get ls v) [])
   sound_at es [] v h = sound_none es
   sound_at es (l ∷ ls) zero h = h.0
   sound_at es (l ∷ ls) (suc v) h = sound_at es ls v h.1

@@ -1,6 +1,6 @@
 -- Edits, and the lists of blocks that a history of them comes to. Assumes nothing.
 use Rattle.std.specs.Prelude.{◌≡◌, ℕ, suc, ◌<◌, ◌≤◌, cond, List, [], ◌∷◌, ◌++◌, map, length, take, drop, ◌==◌}
-use Rattle.std.specs.List.{slice_get, AllByRecursion as All}
+use Rattle.std.specs.List.{slice_get, AllByRecursion}
 use Rattle.std.specs.Option.{unwrap_or}
 use Rattle.flexlist.specs.Shape.{Block, block}
 use Rattle.flexlist.specs.Nodes.{Distinct}
@@ -82,9 +82,9 @@ module _ {R : Type 0} where
 
   -- of one version: all its blocks are known, and no two have one identity
   pub record Sound (es : List (Edit R)) (xs : List (Item R)) : Type 0 where
-    pub known : All (Known es) xs
+    pub known : AllByRecursion (Known es) xs
     pub apart : Distinct (identities_of xs)
 
 -- every version is sound, after any history
 abbrev pub HistoriesSound : Type 0 → Type 0
-HistoriesSound R = (es : List (Edit R)) → (length (lists es) ≡ suc (length es)) × All (Sound es) (lists es)
+HistoriesSound R = (es : List (Edit R)) → (length (lists es) ≡ suc (length es)) × AllByRecursion (Sound es) (lists es)

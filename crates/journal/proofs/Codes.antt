@@ -1,6 +1,6 @@
 -- The records of a journal are a code: bytes that begin with the record of an entry begin with that of no other. Assumes nothing.
 use Rattle.std.proofs.Common.{◌≡◌, ℕ, ◌+◌, ◌/◌, ◌%◌, ◌^◌, ◌<◌, List, [], ◌∷◌, ◌++◌, length, sym, refl, ◌∙◌, arith}
-use Rattle.std.specs.List.{AllByRecursion as All}
+use Rattle.std.specs.List.{AllByRecursion}
 use Rattle.std.proofs.lemmas.List.{append_assoc}
 use Rattle.reading.specs.Bytes.{two_bytes}
 use Rattle.journal.specs.Format.{Coding, Entry, insert, change, removal, insert_record, change_record, removal_record, row_bytes, entry_bytes, entries_bytes, Fits}
@@ -126,9 +126,9 @@ module _ {R : Type 0} (k : Coding R) (measured : (x : R) → length (k.bytes x) 
     pub more : List (Entry R)
     pub split : es ≡ fs ++ more
     pub left : rest ≡ entries_bytes k more
-    pub fit : All Fits more
+    pub fit : AllByRecursion Fits more
 
-  pub begun_by : (fs es : List (Entry R)) (rest : List ℕ) → All Fits es → All Fits fs → entries_bytes k es ≡ entries_bytes k fs ++ rest → BegunBy es fs rest
+  pub begun_by : (fs es : List (Entry R)) (rest : List ℕ) → AllByRecursion Fits es → AllByRecursion Fits fs → entries_bytes k es ≡ entries_bytes k fs ++ rest → BegunBy es fs rest
   begun_by [] es rest fit fitted h = record { more = es; split = refl; left = sym h; fit = fit }
   begun_by (f ∷ fs) [] rest fit fitted h = absurd (entry_some k f (entries_bytes k fs ++ rest) (sym (append_assoc (entry_bytes k f) (entries_bytes k fs) rest) ∙ sym h))
   begun_by (f ∷ fs) (e ∷ es) rest fit fitted h =

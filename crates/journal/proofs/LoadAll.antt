@@ -1,6 +1,6 @@
 -- A journal taken in, entry by entry. Assumes nothing.
 use Rattle.std.proofs.Common.{◌≡◌, ℕ, ◌+◌, ◌-◌, ◌<◌, ◌≤◌, List, [], ◌∷◌, ◌++◌, map, length, take, drop, Some, None, Ok, Err, Option, Result, sym, refl, ap, ◌∙◌, subst, append_assoc, append-nil, arith, length-append, length-drop}
-use Rattle.std.specs.List.{AllByRecursion as All}
+use Rattle.std.specs.List.{AllByRecursion}
 use Rattle.std.proofs.lemmas.List.{drop_all, map_push}
 use Rattle.std.proofs.ByRecursion.{All-push}
 use Rattle.summary.specs.Summing.{Summing}
@@ -87,8 +87,8 @@ module _ {R Q S : Type 0} (means : Summing R Q) (rows : S → List (List R)) (re
     -- what stands before the record at a place
     pub record SoFar (s t : Archive Q S) (area now : List R) (bytes : List ℕ) (at : ℕ) : Type 0 where
       pub taken : List (Entry R)
-      pub fit : All Fits taken
-      pub roomy : All (λ e. length (row_of e) ≤ length area) taken
+      pub fit : AllByRecursion Fits taken
+      pub roomy : AllByRecursion (λ e. length (row_of e) ≤ length area) taken
       pub split : bytes ≡ head_bytes k ++ (entries_bytes k taken ++ drop at bytes)
       pub place : at ≡ 3 + length (entries_bytes k taken)
       pub sent : SentAll s taken t

@@ -1,6 +1,6 @@
 -- The journal of an archive, loaded into one that has just begun, gives the same versions. Assumes nothing.
 use Rattle.std.proofs.Common.{◌≡◌, ℕ, suc, ◌+◌, List, [], ◌∷◌, ◌++◌, length, Some, Ok, Err, Result, sym, refl, ap, ◌∙◌, subst, arith}
-use Rattle.std.specs.List.{AllByRecursion as All}
+use Rattle.std.specs.List.{AllByRecursion}
 use Rattle.std.proofs.lemmas.List.{append-nil}
 use Rattle.summary.specs.Summing.{Summing}
 use Rattle.store.specs.declared.cause.Cause.{Cause}
@@ -24,7 +24,7 @@ module _ {R : Type 0} (k : Coding R) (measured : (x : R) → length (k.bytes x) 
   module _ {Q S : Type 0} (means : Summing R Q) (rows : S → List (List R)) (refuses : S → List R → Cause → Type 0) (s t : Archive Q S) (area area_after : List R) (r : Result ℕ LoadFault)
       (accepting : (f : EditFault) (place : ℕ) → r ≡ Err (record { fault = fault.Edit f; place = place }) → ⊥) (roomy : (place : ℕ) → r ≡ Err (record { fault = fault.Area; place = place }) → ⊥) where
     -- with entries still to come loading cannot have ended, and with none it ended well
-    ended_on : (more : List (Entry R)) (room place : ℕ) (h : History R) (rest : List ℕ) (passed : List (List R)) → All Fits more → rest ≡ entries_bytes k more → Ended means rows refuses k room place h t rest passed r
+    ended_on : (more : List (Entry R)) (room place : ℕ) (h : History R) (rest : List ℕ) (passed : List (List R)) → AllByRecursion Fits more → rest ≡ entries_bytes k more → Ended means rows refuses k room place h t rest passed r
         → (more ≡ []) × (r ≡ Ok t.tables.count)
     ended_on [] room place h rest passed fit is (whole e p a) = (refl, a)
     ended_on [] room place h rest passed fit is (stopped row f far bad p a) = absurd (edit_none k room rest row f far is bad)
@@ -35,7 +35,7 @@ module _ {R : Type 0} (k : Coding R) (measured : (x : R) → length (k.bytes x) 
         absurd (roomy (place + far) (a ∙ ap {B = Result ℕ LoadFault} (λ (y : JournalFault). Err (record { fault = y; place = place + far })) only))
     ended_on (x ∷ xs) room place h rest passed fit is (refused y more f fits long e refusal p a) = absurd (accepting f place a)
 
-    all_taken : (es : List (Edit R)) → All Fits (entries_of es) → TookIn means rows refuses k (Some []) s area (journal_of k (Some es)) r t area_after
+    all_taken : (es : List (Edit R)) → AllByRecursion Fits (entries_of es) → TookIn means rows refuses k (Some []) s area (journal_of k (Some es)) r t area_after
         → (n : ℕ) × (r ≡ Ok n) × SameVersions means rows refuses k es n t
     all_taken es fit got =
         let cut = (cut_same (head_bytes k) (head_bytes k) (entries_bytes k (entries_of es)) (entries_bytes k got.taken ++ got.rest) refl got.split).1 in
@@ -48,7 +48,7 @@ module _ {R : Type 0} (k : Coding R) (measured : (x : R) → length (k.bytes x) 
         let counted : length u.0 ≡ length es = sym (entries_length u.0) ∙ (ap length same ∙ entries_length es) in
         (t.tables.count, end.1, record { edits = u.0; stands = stands; as_many = stands.tables.counted ∙ ap suc counted; counted = counted; same = lists_shown u.0 es same })
 
-    loaded_back : (es : List (Edit R)) → All Fits (entries_of es) → Loads means rows refuses k (Some []) s area (journal_of k (Some es)) r t area_after
+    loaded_back : (es : List (Edit R)) → AllByRecursion Fits (entries_of es) → Loads means rows refuses k (Some []) s area (journal_of k (Some es)) r t area_after
         → (n : ℕ) × (r ≡ Ok n) × SameVersions means rows refuses k es n t
     loaded_back es fit (short l a e p) = absurd (omega arith)
     loaded_back es fit (no_head l other a e p) = absurd (other refl)

@@ -1,6 +1,6 @@
 -- Every edit of an archive that stands can be held by its record. Assumes nothing.
 use Rattle.std.proofs.Common.{◌≡◌, ℕ, suc, ◌^◌, ◌<◌, ◌≤◌, Bool, true, false, eqb, List, [], ◌∷◌, ◌++◌, length, take, drop, Some, sym, refl, ap, ◌∙◌, subst, arith}
-use Rattle.std.specs.List.{AllByRecursion as All}
+use Rattle.std.specs.List.{AllByRecursion}
 use Rattle.std.proofs.lemmas.Bool.{eqb-true, cond-true, cond-false}
 use Rattle.summary.specs.Summing.{Summing}
 use Rattle.history.specs.Edits.{Content, Item, Edit, base_of, first_changed, done, list_of}
@@ -14,11 +14,11 @@ use Rattle.archive.proofs.Looks.{nth_some}
 use Rattle.journal.specs.Format.{entry_of, entries_of, RowFits, Fits}
 
 module _ {X : Type 0} (P : X → Type 0) where
-  pub all_both : (xs ys : List X) → All P xs → All P ys → All P (xs ++ ys)
+  pub all_both : (xs ys : List X) → AllByRecursion P xs → AllByRecursion P ys → AllByRecursion P (xs ++ ys)
   all_both [] ys as' bs = bs
   all_both (x ∷ xs) ys as' bs = (as'.0, all_both xs ys as'.1 bs)
 
-  all_end : (xs ys : List X) → All P (xs ++ ys) → All P ys
+  all_end : (xs ys : List X) → AllByRecursion P (xs ++ ys) → AllByRecursion P ys
   all_end [] ys as' = as'
   all_end (x ∷ xs) ys as' = all_end xs ys as'.1
 
@@ -53,12 +53,12 @@ module _ {R : Type 0} where
           }
 
   -- the block that an edit makes stands in its list
-  changed_fair : (n : ℕ) (c : Content R) (xs : List (Item R)) (x : Item R) (ys : List (Item R)) → xs ≡ x ∷ ys → All Fair (first_changed n c xs) → RowFits c.row
+  changed_fair : (n : ℕ) (c : Content R) (xs : List (Item R)) (x : Item R) (ys : List (Item R)) → xs ≡ x ∷ ys → AllByRecursion Fair (first_changed n c xs) → RowFits c.row
   changed_fair n c [] x ys h all = let z : ◌≡◌ {A = ℕ} 0 1 = cc in absurd (omega arith)
   changed_fair n c (w ∷ xs) x ys h all = record { some = all.0.some; most = all.0.most }
 
   -- an edit whose numbers are small and whose list is fair fits
-  fits_by : (v : ℕ) (e : Edit R) (before : List (Edit R)) → base_of e < 4096 → InPlace before e → length (list_of before (base_of e)) ≤ 500 → All Fair (done v e (list_of before (base_of e))) → Fits (entry_of e)
+  fits_by : (v : ℕ) (e : Edit R) (before : List (Edit R)) → base_of e < 4096 → InPlace before e → length (list_of before (base_of e)) ≤ 500 → AllByRecursion Fair (done v e (list_of before (base_of e))) → Fits (entry_of e)
   fits_by v (edits.Edit.insert base place level content) before hb hp few fair =
       let own = (all_end Fair (take place (list_of before base)) (record { identity = v; level = level; content = content } ∷ drop place (list_of before base)) fair).0 in
       let flat = own.level in
@@ -78,7 +78,7 @@ module _ {R : Type 0} where
       (b, p)
 
   -- what holds of every edit's entry holds of all entries
-  pub all_entries : (es : List (Edit R)) → ((v : ℕ) (e : Edit R) → edit_of es v ≡ Some e → Fits (entry_of e)) → All Fits (entries_of es)
+  pub all_entries : (es : List (Edit R)) → ((v : ℕ) (e : Edit R) → edit_of es v ≡ Some e → Fits (entry_of e)) → AllByRecursion Fits (entries_of es)
   all_entries [] each = tt
   all_entries (e ∷ es) each =
       all_both Fits (entries_of es) (entry_of e ∷ [])
@@ -86,7 +86,7 @@ module _ {R : Type 0} where
       (each (suc (length es)) e (edit_new e es), tt)
 
 module _ {R Q : Type 0} (means : Summing R Q) (es : List (Edit R)) (s : Tables Q) (stands : TablesStand means es s) where
-  version : (v : ℕ) → v ≤ length es → (All Fair (list_of es v)) × (length (list_of es v) ≤ 500)
+  version : (v : ℕ) → v ≤ length es → (AllByRecursion Fair (list_of es v)) × (length (list_of es v) ≤ 500)
   version v h =
       let many = stands.as_many in
       let t = nth_some stands.trees v (omega arith) in
@@ -100,7 +100,7 @@ module _ {R Q : Type 0} (means : Summing R Q) (es : List (Edit R)) (s : Tables Q
       let g = gave es v e h in
       let counted = stands.counted in
       let few : s.count ≤ 4096 = omega (arith, stands.versions_fit) in
-      fits_by v e (edits_before es v) (omega arith) (stands.placed v e h) (subst (λ l. length l ≤ 500) (g.same (base_of e) older) (version (base_of e) (omega arith)).1) (subst (All Fair) g.list (version v past).0)
+      fits_by v e (edits_before es v) (omega arith) (stands.placed v e h) (subst (λ l. length l ≤ 500) (g.same (base_of e) older) (version (base_of e) (omega arith)).1) (subst (AllByRecursion Fair) g.list (version v past).0)
 
-  pub entries_fit : All Fits (entries_of es)
+  pub entries_fit : AllByRecursion Fits (entries_of es)
   entries_fit = all_entries es edit_fits

@@ -1,6 +1,6 @@
 -- What is written of tables that stand is the journal of their history. Assumes nothing.
 use Rattle.std.proofs.Common.{◌≡◌, ℕ, zero, suc, ◌+◌, ◌-◌, ◌<◌, ◌≤◌, ◌⊎◌, List, [], ◌∷◌, ◌++◌, length, take, drop, Some, None, unwrap_or, sym, refl, ap, ◌∙◌, subst, ap₂, inl, inr, append_assoc, append-nil, mod-eq_of_lt, arith}
-use Rattle.std.specs.List.{slice_get, flat_map, AllByRecursion as All}
+use Rattle.std.specs.List.{slice_get, flat_map, AllByRecursion}
 use Rattle.std.proofs.lemmas.Bool.{cases_lt}
 use Rattle.summary.specs.Summing.{Summing}
 use Rattle.store.specs.declared.cause.Cause.{Cause}
@@ -30,7 +30,7 @@ module _ {A : Type 0} where
   nth_rest [] n = refl
   nth_rest (x ∷ xs) n = refl
 
-  all_mid : (P : A → Type 0) (xs ys : List A) (x : A) → All P (xs ++ (x ∷ ys)) → P x
+  all_mid : (P : A → Type 0) (xs ys : List A) (x : A) → AllByRecursion P (xs ++ (x ∷ ys)) → P x
   all_mid P [] ys x a = a.0
   all_mid P (y ∷ xs) ys x a = all_mid P xs ys x a.1
 

@@ -1,6 +1,6 @@
 -- What loading a journal answers and leaves. Assumes nothing.
 use Rattle.std.specs.Prelude.{◌≡◌, ℕ, ◌+◌, ◌<◌, ◌≤◌, List, [], ◌∷◌, ◌++◌, map, length, take, drop, Some, None, Ok, Err, Option, Result, ◌≢◌}
-use Rattle.std.specs.List.{AllByRecursion as All}
+use Rattle.std.specs.List.{AllByRecursion}
 use Rattle.summary.specs.Summing.{Summing}
 use Rattle.store.specs.declared.cause.Cause.{Cause}
 use Rattle.history.specs.Edits.{Edit}
@@ -51,8 +51,8 @@ module _ {R Q S : Type 0} (means : Summing R Q) (rows : S → List (List R)) (re
     -- their rows at its start, one over another.
     pub record TookIn (h : History R) (s : Archive Q S) (area : List R) (bytes : List ℕ) (r : Result ℕ LoadFault) (t : Archive Q S) (area_after : List R) : Type 0 where
       pub taken : List (Entry R)
-      pub fit : All Fits taken
-      pub roomy : All (λ e. length (row_of e) ≤ length area) taken
+      pub fit : AllByRecursion Fits taken
+      pub roomy : AllByRecursion (λ e. length (row_of e) ≤ length area) taken
       pub rest : List ℕ
       pub split : bytes ≡ head_bytes coding ++ (entries_bytes coding taken ++ rest)
       pub history : History R
