@@ -46,7 +46,7 @@ module _ {R : Type 0} (k : Coding R) (measured : (x : R) → length (k.bytes x) 
         let same : entries_of u.0 ≡ entries_of es = u.2 ∙ sym all in
         let stands : Standing means rows refuses (Some u.0) t = subst (λ h. Standing means rows refuses h t) u.1 got.stands in
         let counted : length u.0 ≡ length es = sym (entries_length u.0) ∙ (ap length same ∙ entries_length es) in
-        (t.tables.count, end.1, record { edits = u.0; stands = stands; as_many = stands.tables.counted ∙ ap suc counted; counted = counted; same = lists_shown u.0 es same })
+        (t.tables.count, end.1, record { edits = u.0; stands = stands; as_many = stands.stands.tables.counted ∙ ap suc counted; counted = counted; same = lists_shown u.0 es same })
 
     loaded_back : (es : List (Edit R)) → AllByRecursion Fits (entries_of es) → Loads means rows refuses k (Some []) s area (journal_of k (Some es)) r t area_after
         → (n : ℕ) × (r ≡ Ok n) × SameVersions means rows refuses k es n t
@@ -57,4 +57,4 @@ module _ {R : Type 0} (k : Coding R) (measured : (x : R) → length (k.bytes x) 
   pub loads_back : {P T Q S : Type 0} (theirs : Summing R P) (their_rows : T → List (List R)) (their_refuses : T → List R → Cause → Type 0) (means : Summing R Q) (rows : S → List (List R)) (refuses : S → List R → Cause → Type 0)
       → LoadsBack k theirs their_rows their_refuses means rows refuses
   loads_back theirs their_rows their_refuses means rows refuses from es stood s t area area_after r st loads accepting roomy =
-      loaded_back means rows refuses s t area area_after r accepting roomy es (entries_fit theirs es from.tables stood.tables) loads
+      loaded_back means rows refuses s t area area_after r accepting roomy es (entries_fit theirs es from.tables stood.stands.tables stood.placed) loads

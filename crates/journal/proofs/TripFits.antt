@@ -9,6 +9,7 @@ use Rattle.history.specs.Replay.{InPlace}
 use Rattle.history.proofs.Bounds.{first_of}
 use Rattle.archive.specs.Records.{edit_of, edits_before}
 use Rattle.archive.specs.Stands.{Tables, Fair, TablesStand}
+use Rattle.archive.specs.Calling.{EachInPlace}
 use Rattle.archive.proofs.Later.{list_later, list_new, edit_later, edit_new, edit_past, same_some, some_none}
 use Rattle.archive.proofs.Looks.{nth_some}
 use Rattle.journal.specs.Format.{entry_of, entries_of, RowFits, Fits}
@@ -85,7 +86,7 @@ module _ {R : Type 0} where
       (all_entries es (λ v f h. each v f (edit_later e es v (edit_past es v f h) ∙ h)))
       (each (suc (length es)) e (edit_new e es), tt)
 
-module _ {R Q : Type 0} (means : Summing R Q) (es : List (Edit R)) (s : Tables Q) (stands : TablesStand means es s) where
+module _ {R Q : Type 0} (means : Summing R Q) (es : List (Edit R)) (s : Tables Q) (stands : TablesStand means es s) (placed : EachInPlace es) where
   version : (v : ℕ) → v ≤ length es → (AllByRecursion Fair (list_of es v)) × (length (list_of es v) ≤ 500)
   version v h =
       let many = stands.as_many in
@@ -100,7 +101,7 @@ module _ {R Q : Type 0} (means : Summing R Q) (es : List (Edit R)) (s : Tables Q
       let g = gave es v e h in
       let counted = stands.counted in
       let few : s.count ≤ 4096 = omega (arith, stands.versions_fit) in
-      fits_by v e (edits_before es v) (omega arith) (stands.placed v e h) (subst (λ l. length l ≤ 500) (g.same (base_of e) older) (version (base_of e) (omega arith)).1) (subst (AllByRecursion Fair) g.list (version v past).0)
+      fits_by v e (edits_before es v) (omega arith) (placed v e h) (subst (λ l. length l ≤ 500) (g.same (base_of e) older) (version (base_of e) (omega arith)).1) (subst (AllByRecursion Fair) g.list (version v past).0)
 
   pub entries_fit : AllByRecursion Fits (entries_of es)
   entries_fit = all_entries es edit_fits

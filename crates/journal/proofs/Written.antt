@@ -9,8 +9,8 @@ use Rattle.history.specs.Edits.{Item, Edit, insert, change, removal, first_chang
 use Rattle.history.specs.Replay.{InPlace, next_list}
 use Rattle.archive.specs.declared.version.Version.{Version}
 use Rattle.archive.specs.Records.{edit_of, edits_before, edit_record, record_by}
-use Rattle.archive.specs.Stands.{Tables, Stands, RowsStand}
-use Rattle.archive.specs.Calling.{Archive, Standing}
+use Rattle.archive.specs.Stands.{Tables, RowsStand}
+use Rattle.archive.specs.Calling.{Archive, StandsInPlace, Standing}
 use Rattle.archive.proofs.Later.{edit_later, edit_new, edit_past, before_later, before_new, list_later, list_new, same_some, some_none}
 use Rattle.archive.proofs.Looks.{nth_some}
 use Rattle.runs.specs.Runs.{History}
@@ -113,13 +113,13 @@ module _ {R : Type 0} (k : Coding R) (small : k.code < 252) where
         ∙ sym (entries_one (entries_of es) (entry_of e))
 
 module _ {R Q S : Type 0} (means : Summing R Q) (rows : S → List (List R)) (refuses : S → List R → Cause → Type 0) (k : Coding R) (small : k.code < 252) where
-  stands_told : (es : List (Edit R)) (s : Tables Q) (store : S) → Stands means rows es s store → Told k small (rows store) s.versions es
+  stands_told : (es : List (Edit R)) (s : Tables Q) (store : S) → StandsInPlace means rows refuses es s store → Told k small (rows store) s.versions es
   stands_told es s store st v e q =
-      let tables = st.tables in
+      let tables = st.stands.tables in
       let low = edit_past es v e q in
       let many = tables.as_many in
       let t = nth_some tables.trees v (omega arith) in
-      let there = row_done (rows store) (edits_before es v) e (tables.placed v e q) (subst (RowsStand (rows store)) (list_given es v e q) (st.stored v)) in (
+      let there = row_done (rows store) (edits_before es v) e (st.placed v e q) (subst (RowsStand (rows store)) (list_given es v e q) (st.stands.stored v)) in (
         record_by (edit_of es v) (edits_before es v) (list_of es v) (root t.0),
         (tables.each v t.0 t.1).recorded,
         ap (λ o. version_bytes k (rows store) (record_by o (edits_before es v) (list_of es v) (root t.0))) q ∙ version_same k small (rows store) (edits_before es v) e (list_of es v) (root t.0) there,
@@ -129,7 +129,7 @@ module _ {R Q S : Type 0} (means : Summing R Q) (rows : S → List (List R)) (re
   pub journal_written : (h : History R) (s : Archive Q S) → Standing means rows refuses h s → tables_bytes k (rows s.store) s.tables.versions s.tables.count ≡ journal_of k h
   journal_written None s st = ap (λ n. head_bytes k ++ flat_map (version_bytes k (rows s.store)) (take (n - 1) (drop 1 s.tables.versions))) st
   journal_written (Some es) s st =
-      let n = st.tables.counted in
+      let n = st.stands.tables.counted in
       let less : s.tables.count - 1 ≡ length es = omega arith in
       ap (λ m. head_bytes k ++ flat_map (version_bytes k (rows s.store)) (take m (drop 1 s.tables.versions))) less
       ∙ ap (λ l. head_bytes k ++ l) (told_all k small (rows s.store) s.tables.versions es (stands_told es s.tables s.store st))

@@ -30,7 +30,7 @@ fn write_tables<S: BlockStore>(
     store: &S,
     out: &mut [u8],
 ) -> Result<usize, JournalFault>
-    ensures { Writes (tables_bytes (coding Reading-as-Reading.coded Reading-as-Reading.wide Reading-as-Reading.bytes) (S.BlockStore.rows store.now) versions.now count) out.old result out.new }
+    ensures { Writes (tables_bytes (coding S.Reading.Reading.coded S.Reading.Reading.wide S.Reading.Reading.bytes) (S.BlockStore.rows store.now) versions.now count) out.old result out.new }
 {
     let records = above_first(versions, count);
     let total = journal_size(store, records);

@@ -8,7 +8,7 @@ use Rattle.journal.proofs.write_journal.write_archive.Goals as goal
 
 pub returns : goal.returns
 returns g c =
-    let k = coding g.Reading.Reading.coded g.Reading.Reading.wide g.Reading.Reading.bytes in
+    let k = coding g.S.Reading.Reading.coded g.S.Reading.Reading.wide g.S.Reading.Reading.bytes in
     let held = g.S.BlockStore.rows c.args.store.now in
     let versions = c.args.versions.now in
     let out = c.args.out.now in
