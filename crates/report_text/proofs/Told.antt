@@ -56,16 +56,16 @@ written_same es v root = go (edit_of es v)
     go (Some e) = refl
 
 module _ {S : Type 0} (rows : S → List (List Count)) (refuses : S → List Count → Cause → Type 0) (s : Archive (Peak Count) S) where
-  pub top_there : (v n : ℕ) (p : Peak Count) → SummaryTold peaks rows refuses s v 0 n (Ok p) → TopTold rows s v n p.highest
+  pub top_there : (v n : ℕ) (p : Peak Count) → SummaryTold peaks rows refuses s v 0 n (Ok p) → TopTold rows refuses s v n p.highest
   top_there v n p told es st low e = ap (λ q. q.highest) (same_ok _ _ (told (Some es) st ∙ whole_answer es v n low e))
 
-  pub top_missing : (v n : ℕ) (f : ReadFault) → SummaryTold peaks rows refuses s v 0 n (Err f) → TopTold rows s v n None
+  pub top_missing : (v n : ℕ) (f : ReadFault) → SummaryTold peaks rows refuses s v 0 n (Err f) → TopTold rows refuses s v n None
   top_missing v n f told es st low e = absurd (never_err _ _ (told (Some es) st ∙ whole_answer es v n low e))
 
   -- the record that is read is the version's
-  module _ (v : ℕ) (es : List (Edit Count)) (st : Stands peaks rows es s.tables s.store) (low : v ≤ length es) (noted : Version) (there : slice_get s.tables.versions v ≡ Some noted) where
-    at : BaseFound peaks s.tables es st.tables v noted
-    at = found_below peaks s.tables es st.tables v low noted there
+  module _ (v : ℕ) (es : List (Edit Count)) (st : Standing peaks rows refuses (Some es) s) (low : v ≤ length es) (noted : Version) (there : slice_get s.tables.versions v ≡ Some noted) where
+    at : BaseFound peaks s.tables es st.stands.tables v noted
+    at = found_below peaks s.tables es st.stands.tables v low noted there
 
     blocks_are : noted.blocks ≡ length (list_of es v)
     blocks_are = at.told_of.blocks_is
@@ -76,8 +76,8 @@ module _ {S : Type 0} (rows : S → List (List Count)) (refuses : S → List Cou
     written_is : noted.written ≡ (record_of es v 0).written
     written_is = ap (λ w. w.written) (same_some _ _ (sym there ∙ at.stands.recorded)) ∙ written_same es v (root at.tree)
 
-  pub line_there : (v : ℕ) (noted : Version) (top : Option (Highest Count)) (text : List ℕ) → Some noted ≡ slice_get s.tables.versions v → TopTold rows s v noted.readings top
-      → text ≡ line_text v noted.blocks noted.readings noted.written top → LineTold rows s v text
+  pub line_there : (v : ℕ) (noted : Version) (top : Option (Highest Count)) (text : List ℕ) → Some noted ≡ slice_get s.tables.versions v → TopTold rows refuses s v noted.readings top
+      → text ≡ line_text v noted.blocks noted.readings noted.written top → LineTold rows refuses s v text
   line_there v noted top text read t e es st low =
       let there : slice_get s.tables.versions v ≡ Some noted = sym read in
       let b = blocks_are v es st low noted there in
@@ -89,18 +89,18 @@ module _ {S : Type 0} (rows : S → List (List Count)) (refuses : S → List Cou
       ∙ ap (λ n. line_text v (length (list_of es v)) (length (all_readings (list_of es v))) n top) w
       ∙ ap (line_text v (length (list_of es v)) (length (all_readings (list_of es v))) (record_of es v 0).written) p
 
-  pub line_missing : (v : ℕ) (text : List ℕ) → slice_get s.tables.versions v ≡ None → LineTold rows s v text
+  pub line_missing : (v : ℕ) (text : List ℕ) → slice_get s.tables.versions v ≡ None → LineTold rows refuses s v text
   line_missing v text none es st low =
-      let n = st.tables.as_many in
-      let t = nth_some st.tables.trees v (omega arith) in
-      absurd (some_none _ (sym (st.tables.each v t.0 t.1).recorded ∙ none))
+      let n = st.stands.tables.as_many in
+      let t = nth_some st.stands.tables.trees v (omega arith) in
+      absurd (some_none _ (sym (st.stands.tables.each v t.0 t.1).recorded ∙ none))
 
   -- one line more
-  pub lines_more : (n : ℕ) (before text shown line after : List ℕ) → n < s.tables.count → LinesTold rows refuses s n before text → LineTold rows s n line → shown ≡ line → after ≡ text ++ shown
+  pub lines_more : (n : ℕ) (before text shown line after : List ℕ) → n < s.tables.count → LinesTold rows refuses s n before text → LineTold rows refuses s n line → shown ≡ line → after ≡ text ++ shown
       → LinesTold rows refuses s (n + 1) before after
   lines_more n before text shown line after h told said p e None st = absurd (omega arith)
   lines_more n before text shown line after h told said p e (Some es) st =
-      let c = st.tables.counted in
+      let c = st.stands.tables.counted in
       e ∙ ap (λ l. l ++ shown) (told (Some es) st) ∙ append_assoc before (version_lines es n) shown ∙ ap (λ l. before ++ (version_lines es n ++ l)) (p ∙ said es st (omega arith))
       ∙ ap (λ k. before ++ version_lines es k) (sym (add-one n))
 
@@ -112,7 +112,7 @@ module _ {S : Type 0} (rows : S → List (List Count)) (refuses : S → List Cou
   table_shown : (head mid : List ℕ) → head ≡ header → LinesTold rows refuses s s.tables.count head mid → (h : History Count) → Standing peaks rows refuses h s → mid ≡ table_text h
   table_shown head mid e told None st = told None st ∙ append-nil head ∙ e
   table_shown head mid e told (Some es) st =
-      told (Some es) st ∙ ap (λ l. l ++ version_lines es s.tables.count) e ∙ ap (λ n. header ++ version_lines es n) st.tables.counted
+      told (Some es) st ∙ ap (λ l. l ++ version_lines es s.tables.count) e ∙ ap (λ n. header ++ version_lines es n) st.stands.tables.counted
 
   pub all_shown : (head mid shown line text : List ℕ) (answer : Result ℕ LoadFault) → head ≡ header → LinesTold rows refuses s s.tables.count head mid → line ≡ fault_text answer → shown ≡ line
       → text ≡ mid ++ shown → (h : History Count) → Standing peaks rows refuses h s → text ≡ table_text h ++ fault_text answer

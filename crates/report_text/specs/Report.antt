@@ -77,29 +77,28 @@ fault_text (Err f) = codes "fault " ++ (decimal (fault_number f.fault) ++ (codes
 
 -- ---- what the functions write
 
-module _ {S : Type 0} (rows : S → List (List Count)) where
+module _ {S : Type 0} (rows : S → List (List Count)) (refuses : S → List Count → Cause → Type 0) where
   -- the peak of a version, where the readings asked for are all of its readings
   abbrev pub TopTold : Archive (Peak Count) S → ℕ → ℕ → Option (Highest Count) → Type 0
   TopTold s v readings top =
-      (es : List (Edit Count)) → Stands peaks rows es s.tables s.store → v ≤ length es → readings ≡ length (all_readings (list_of es v)) →
+      (es : List (Edit Count)) → Standing peaks rows refuses (Some es) s → v ≤ length es → readings ≡ length (all_readings (list_of es v)) →
       top ≡ (summary_of peaks (all_readings (list_of es v))).highest
 
   -- the line of a version
   abbrev pub LineTold : Archive (Peak Count) S → ℕ → List ℕ → Type 0
-  LineTold s v text = (es : List (Edit Count)) → Stands peaks rows es s.tables s.store → v ≤ length es → text ≡ version_line es v
+  LineTold s v text = (es : List (Edit Count)) → Standing peaks rows refuses (Some es) s → v ≤ length es → text ≡ version_line es v
 
-  module _ (refuses : S → List Count → Cause → Type 0) where
-    -- the lines of the first n versions added to a text
-    abbrev pub LinesTold : Archive (Peak Count) S → ℕ → List ℕ → List ℕ → Type 0
-    LinesTold s n before after = (h : History Count) → Standing peaks rows refuses h s → after ≡ before ++ lines_of h n
+  -- the lines of the first n versions added to a text
+  abbrev pub LinesTold : Archive (Peak Count) S → ℕ → List ℕ → List ℕ → Type 0
+  LinesTold s n before after = (h : History Count) → Standing peaks rows refuses h s → after ≡ before ++ lines_of h n
 
-    -- the text of a journal, loaded into the tables, the store and the row area that were given
-    pub record ReportedOver (nodes : List (Node (Peak Count))) (versions : List Version) (store : S) (area : List Count) (bytes text : List ℕ) : Type 0 where
-      pub answer : Result ℕ LoadFault
-      pub archive : Archive (Peak Count) S
-      pub area_after : List Count
-      pub loaded : LoadedFrom peaks rows refuses counts nodes versions store area bytes answer archive area_after
-      pub shown : (h : History Count) → Standing peaks rows refuses h archive → text ≡ table_text h ++ fault_text answer
+  -- the text of a journal, loaded into the tables, the store and the row area that were given
+  pub record ReportedOver (nodes : List (Node (Peak Count))) (versions : List Version) (store : S) (area : List Count) (bytes text : List ℕ) : Type 0 where
+    pub answer : Result ℕ LoadFault
+    pub archive : Archive (Peak Count) S
+    pub area_after : List Count
+    pub loaded : LoadedFrom peaks rows refuses counts nodes versions store area bytes answer archive area_after
+    pub shown : (h : History Count) → Standing peaks rows refuses h archive → text ≡ table_text h ++ fault_text answer
 
 -- The text of the first bytes, at most so many, with 1,024 nodes, 256 versions, a row area of 1,024 readings and a row store with no block over an area
 -- of 4,096.

@@ -42,7 +42,6 @@ fn free_node() -> Node<Peak<Count>> {
         readings: 0,
         blocks: 0,
         summary: Peak::nothing(),
-        row: Peak::nothing(),
     }
 }
 

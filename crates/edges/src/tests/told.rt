@@ -52,7 +52,7 @@ impl Told for Swing {
 }
 
 // What a node is, and what it counts.
-pub(super) fn node_told<Q: Told>(node: &Node<Q>) -> ([u32; 6], [u32; 4], [u32; 4]) {
+pub(super) fn node_told<Q: Told>(node: &Node<Q>) -> ([u32; 6], [u32; 4]) {
     let counts = match node.shape {
         Shape::Leaf {
             block,
@@ -77,7 +77,7 @@ pub(super) fn node_told<Q: Told>(node: &Node<Q>) -> ([u32; 6], [u32; 4], [u32; 4
             node.blocks,
         ],
     };
-    (counts, node.summary.told(), node.row.told())
+    (counts, node.summary.told())
 }
 
 // Parent, kind, place, level, written, and then block, root, blocks, readings.
@@ -110,7 +110,6 @@ pub(super) fn free_node<Q: Summary>() -> Node<Q> {
         readings: 66,
         blocks: 55,
         summary: Q::nothing(),
-        row: Q::nothing(),
     }
 }
 

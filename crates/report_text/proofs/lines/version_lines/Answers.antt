@@ -12,8 +12,8 @@ loop-v-preserved g c =
     let s = archive_of c.args.table.now c.args.versions.now c.args.store.now in
     let n = c.loop-v.v in
     let below : n < c.args.table.now.count = omega arith in
-    lines_more g.S.BlockStore.rows g.S.BlockStore.refuses s n (string_bytes c.args.text.now) (string_bytes c.loop-v.text) c.as-str.result.now (string_bytes c.in-ok-shown.shown)
-    (string_bytes c.push-str.new.self) below c.loop-v.invariant c.in-ok-shown.ensures c.as-str.ensures.value c.in-ok-push-str.ensures.bytes
+    lines_more g.S.BlockStore.rows g.S.BlockStore.refuses s n (string_bytes c.args.text.now) (string_bytes c.loop-v.text) c.as_str.result.now (string_bytes c.in_ok-shown.shown)
+    (string_bytes c.push_str.new.self) below c.loop-v.invariant c.in_ok-shown.ensures c.as_str.ensures.value c.in_ok-push_str.ensures.bytes
 
 pub returns : goal.returns
 returns g c =
