@@ -1,5 +1,5 @@
 -- A journal taken in, entry by entry. Assumes nothing.
-use Rattle.std.proofs.Common.{◌≡◌, ℕ, ◌+◌, ◌-◌, ◌<◌, ◌≤◌, List, [], ◌∷◌, ◌++◌, map, length, take, drop, Some, None, Ok, Err, Option, Result, sym, refl, ap, ◌∙◌, subst, append_assoc, append-nil, arith, length-append, length-drop}
+use Rattle.std.proofs.Common.{◌≡◌, ℕ, ◌+◌, ◌-◌, ◌<◌, ◌≤◌, List, [], ◌∷◌, ◌++◌, map, length, drop, Some, None, Ok, Err, Option, Result, sym, refl, ap, ◌∙◌, subst, append_assoc, append-nil, arith, length-append, length-drop}
 use Rattle.std.specs.List.{AllByRecursion}
 use Rattle.std.proofs.lemmas.List.{drop_all, map_push}
 use Rattle.std.proofs.ByRecursion.{All-push}
@@ -8,7 +8,7 @@ use Rattle.store.specs.declared.cause.Cause.{Cause}
 use Rattle.history.specs.Edits.{Edit}
 use Rattle.archive.specs.declared.fault.EditFault.{EditFault}
 use Rattle.archive.specs.declared.table.Accepted.{Accepted}
-use Rattle.archive.specs.Calling.{Archive, Answered, Standing, EditKept, EditAccepted, EditLaw, RowRefused, asked_refusal, edit_asked}
+use Rattle.archive.specs.Calling.{Archive, Answered, Standing, EditKept, EditAccepted, RowRefused, asked_refusal, edit_asked}
 use Rattle.runs.specs.Runs.{History}
 use Rattle.journal.specs.declared.fault.JournalFault.{JournalFault}
 use Rattle.journal.specs.declared.fault.JournalFault.TheVariants as fault

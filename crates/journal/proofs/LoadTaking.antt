@@ -1,5 +1,5 @@
 -- An edit of a journal that was taken in, or why none was. Assumes nothing.
-use Rattle.std.proofs.Common.{◌≡◌, ℕ, ◌+◌, ◌-◌, ◌<◌, ◌≤◌, List, [], ◌∷◌, ◌++◌, length, take, drop, Ok, Err, Result, sym, refl, ap, ◌∙◌, subst, append_assoc, append-nil, add-zero, arith, length-append}
+use Rattle.std.proofs.Common.{◌≡◌, ℕ, ◌+◌, ◌-◌, ◌<◌, ◌≤◌, List, [], ◌++◌, length, take, drop, Ok, Err, Result, sym, refl, ap, ◌∙◌, subst, append_assoc, append-nil, add-zero, arith, length-append}
 use Rattle.std.proofs.lemmas.List.{take_at, nil_from_length}
 use Rattle.summary.specs.Summing.{Summing}
 use Rattle.store.specs.declared.cause.Cause.{Cause}
@@ -17,7 +17,7 @@ use Rattle.journal.specs.Faults.{Opens, NoRecord, NoEdit}
 use Rattle.journal.specs.Faults as faults
 use Rattle.journal.specs.Reads.{RowThere, RowStopped}
 use Rattle.journal.specs.Records.{entry_with, record_bytes, StepFits, RecordThere}
-use Rattle.journal.specs.Taking.{Sent, EntryTaken, EntryStopped, bad, refused, OneTaken}
+use Rattle.journal.specs.Taking.{EntryTaken, EntryStopped, bad, refused, OneTaken}
 
 -- a record with a row that has readings opens an insert or a change
 pub record RowOpens (front : List ℕ) (n size : ℕ) (more : List ℕ) : Type 0 where

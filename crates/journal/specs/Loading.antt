@@ -1,5 +1,5 @@
 -- What loading a journal answers and leaves. Assumes nothing.
-use Rattle.std.specs.Prelude.{◌≡◌, ℕ, ◌+◌, ◌<◌, ◌≤◌, List, [], ◌∷◌, ◌++◌, map, length, take, drop, Some, None, Ok, Err, Option, Result, ◌≢◌}
+use Rattle.std.specs.Prelude.{◌≡◌, ℕ, ◌+◌, ◌<◌, ◌≤◌, List, [], ◌∷◌, ◌++◌, map, length, take, drop, Some, Ok, Err, Result, ◌≢◌}
 use Rattle.std.specs.List.{AllByRecursion}
 use Rattle.summary.specs.Summing.{Summing}
 use Rattle.store.specs.declared.cause.Cause.{Cause}
@@ -10,7 +10,7 @@ use Rattle.archive.specs.declared.begin.Begun.{Begun}
 use Rattle.archive.specs.declared.fault.EditFault.{EditFault}
 use Rattle.archive.specs.declared.table.Accepted.{Accepted}
 use Rattle.archive.specs.Beginning.{Begin}
-use Rattle.archive.specs.Calling.{Archive, Asked, Standing, EditKept, EditAccepted, EditTold, edit_asked}
+use Rattle.archive.specs.Calling.{Archive, Standing, EditKept, EditAccepted, EditTold, edit_asked}
 use Rattle.runs.specs.Runs.{History, begun_history}
 use Rattle.journal.specs.declared.fault.JournalFault.{JournalFault}
 use Rattle.journal.specs.declared.fault.JournalFault.TheVariants as fault

@@ -1,10 +1,9 @@
 -- What writing an archive's journal answers and leaves, and the two round trips. Assumes nothing.
-use Rattle.std.specs.Prelude.{◌≡◌, ℕ, suc, ◌<◌, ◌≤◌, Bool, List, [], ◌∷◌, ◌++◌, map, length, drop, Some, None, Ok, Err, MatchBool, Result, ◌≢◌, nat_le}
+use Rattle.std.specs.Prelude.{◌≡◌, ℕ, suc, ◌≤◌, List, [], ◌++◌, map, length, drop, Some, None, Ok, Err, MatchBool, Result, ◌≢◌, nat_le}
 use Rattle.summary.specs.Summing.{Summing}
 use Rattle.store.specs.declared.cause.Cause.{Cause}
 use Rattle.history.specs.Edits.{Item, Edit, list_of}
 use Rattle.archive.specs.declared.fault.EditFault.{EditFault}
-use Rattle.archive.specs.Stands.{Stands}
 use Rattle.archive.specs.Calling.{Archive, Standing}
 use Rattle.runs.specs.Runs.{History}
 use Rattle.journal.specs.declared.fault.JournalFault.{JournalFault}

@@ -73,7 +73,6 @@ fn free_node<Q: Summary>() -> Node<Q> {
         readings: 66,
         blocks: 55,
         summary: Q::nothing(),
-        row: Q::nothing(),
     }
 }
 

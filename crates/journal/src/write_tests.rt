@@ -25,7 +25,6 @@ fn free_node() -> Node<Tally<Count>> {
         readings: 66,
         blocks: 55,
         summary: Tally::nothing(),
-        row: Tally::nothing(),
     }
 }
 

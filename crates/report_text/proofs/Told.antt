@@ -21,7 +21,6 @@ use Rattle.archive.specs.declared.fault.ReadFault.TheVariants as unread
 use Rattle.archive.specs.Asking.{all_readings, part, outside, answer_by, part_refusal, summary_answer}
 use Rattle.archive.specs.Calling.{Archive, Standing, SummaryTold}
 use Rattle.archive.specs.Records.{record_of, record_by, edit_of, edits_before}
-use Rattle.archive.specs.Stands.{Stands}
 use Rattle.archive.proofs.Later.{same_some, some_none}
 use Rattle.archive.proofs.Looks.{BaseFound, found_below, nth_some}
 use Rattle.archive.proofs.Asks.{readings_counted}

@@ -134,6 +134,7 @@ fn noted<S: BlockStore>(
     store: &S,
     parts: &[Part],
     call: Call,
+    at: u32,
     answer: [u32; 3],
 ) -> Result<(), Fail> {
     let place = blocks_of(parts, base_of(call));
@@ -144,13 +145,18 @@ fn noted<S: BlockStore>(
         return Err(Fail::new("no record"));
     };
     let (first, _) = record_told(version);
-    assert_eq!(rt; first, wanted);
+    assert_eq!(rt; first, wanted, "{}", at);
     let len = row_len(call);
     if len == 0 {
-        assert_eq!(rt; version.block, 0);
+        assert_eq!(rt; version.block, 0, "{}", at);
         Ok(())
     } else {
-        assert_eq!(rt; store.block_len(version.block).unwrap_or(0) as usize, len);
+        assert_eq!(rt;
+            store.block_len(version.block).unwrap_or(0) as usize,
+            len,
+            "{}",
+            at
+        );
         Ok(())
     }
 }
@@ -272,7 +278,7 @@ fn one_call<S: BlockStore, Q: Summary<Reading = S::Reading> + Copy + Told>(
     let answer = carry(rt, heap, table, versions, store, readings, mark, call)?;
     assert_eq!(rt; answer, meant(wanted, answer), "{}", at);
     if answer[0] == 0 {
-        noted(rt, versions, store, parts, call, answer).note(at)?;
+        noted(rt, versions, store, parts, call, at, answer)?;
     }
     Ok(answer)
 }
@@ -294,8 +300,8 @@ fn holds<S: BlockStore, Q: Summary<Reading = S::Reading> + Copy + Told>(
     let Some(record) = versions.get(version as usize) else {
         return Err(Fail::new("no record"));
     };
-    assert_eq!(rt; record.blocks, blocks);
-    assert_eq!(rt; record.readings as usize, list.len());
+    assert_eq!(rt; record.blocks, blocks, "{}", version);
+    assert_eq!(rt; record.readings as usize, list.len(), "{}", version);
     Ok(())
 }
 
@@ -331,8 +337,7 @@ fn play<S: BlockStore, Q: Summary<Reading = S::Reading> + Copy + Told>(
         let blocks = blocks_of(&parts, version);
         holds(
             rt, heap, &table, versions, store, version, mark, &list, blocks,
-        )
-        .note(version)?;
+        )?;
     }
     Ok([table.used(), count, store.count()])
 }

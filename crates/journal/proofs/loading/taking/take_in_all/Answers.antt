@@ -1,4 +1,4 @@
-use Rattle.std.proofs.Common.{◌≡◌, refl, ◌∙◌, arith}
+use Rattle.std.proofs.Common.{refl, ◌∙◌, arith}
 use Rattle.std.proofs.lemmas.Result.{err_from_is_err_and}
 use Rattle.archive.specs.Calling.{archive_of}
 use Rattle.journal.proofs.LoadAll.{so_far_none, so_far_more, so_far_whole, so_far_answered, further, no_head}
