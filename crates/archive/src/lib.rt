@@ -1,5 +1,4 @@
-// The trace archive: what its tables stand for, its refusals, begin and the edits over the caller's slices. The public calls, and the questions
-// among them, come with the next delivery.
+// The trace archive: what its tables stand for, its refusals, and its calls: begin, the edits and the questions.
 #![tactic(auto)]
 
 mod ask;

@@ -1,6 +1,6 @@
 // Counts as a kind of reading: code 1, two bytes. The lowest number says that the sensor gave nothing; the rank is the value.
 ghost use Rattle.std.specs.Prelude.{◌≡◌, Decides};
-ghost use Rattle.std.proofs.Common.{sym, ap, ◌∙◌, of_z, to_z, rules, arith};
+ghost use Rattle.std.proofs.Common.{refl, sym, ap, ◌∙◌, of_z, to_z};
 ghost use Rattle.reading.specs.Kinds.{count_missing, count_bytes, count_said, Decoded};
 ghost use Rattle.reading.specs.Restoring.{restored_count};
 ghost use Rattle.std.specs.Int.{w16};
@@ -64,7 +64,7 @@ impl Reading for Count {
 
     ghost restored = { restored_count };
 
-    ghost measured = { first_of (Prim.search rules, Prim.grind (arith, Self.row.coded.inj)) };
+    ghost measured = { λ x. refl };
 
     ghost told = { λ x y e.
         let bits : of_z w16 x.value ≡ of_z w16 y.value = sym (two_back _ (whole x)) ∙ ap of_two e ∙ two_back _ (whole y) in

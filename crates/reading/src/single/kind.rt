@@ -1,6 +1,6 @@
 // Single floats as a kind of reading: code 2, four bytes. Not-a-number is missing and ranks 0; an infinity is present.
 ghost use Rattle.std.specs.Prelude.{◌≡◌, Decides};
-ghost use Rattle.std.proofs.Common.{sym, ap, ◌∙◌, rules, arith};
+ghost use Rattle.std.proofs.Common.{refl, sym, ap, ◌∙◌};
 ghost use Rattle.reading.specs.Kinds.{single_rank};
 ghost use Rattle.reading.specs.Bytes.{four_bytes};
 ghost use Rattle.reading.specs.Patterns.{not_a_number};
@@ -46,7 +46,7 @@ impl Reading for Single {
 
     ghost restored = { restored_single };
 
-    ghost measured = { first_of (Prim.search rules, Prim.grind (arith, Self.row.coded.inj)) };
+    ghost measured = { λ x. refl };
 
     ghost told = { λ x y e. single_equal x y (sym (four_back _ x.fits) ∙ ap of_four e ∙ four_back _ y.fits) };
 
