@@ -1,6 +1,5 @@
 -- From the edits over plain slices to the edits on a node table. Assumes nothing.
-use Rattle.std.proofs.Common.{◌≡◌, ℕ, suc, ◌+◌, ◌-◌, ◌<◌, ◌≤◌, ◌⊎◌, inl, inr, leb, List, ◌∷◌, length, Some, None, Ok, Err, Option, Result, sym, refl, ap, ◌∙◌, subst, arith, ltb-false, leb-false}
-use native.Mathlib.Decide.{dec_le}
+use Rattle.std.proofs.Common.{◌≡◌, ℕ, suc, ◌+◌, ◌-◌, ◌<◌, inl, inr, leb, List, ◌∷◌, length, Some, None, Ok, Err, Option, Result, sym, refl, ap, ◌∙◌, subst, arith, ltb-false, leb-false}
 use Rattle.std.proofs.lemmas.Bool.{cond-true}
 use Rattle.summary.specs.Summing.{Summing}
 use Rattle.store.specs.declared.cause.Cause.{Cause}
@@ -29,7 +28,7 @@ use Rattle.archive.specs.Calling as asked
 use Rattle.archive.proofs.Inserts.{sub_is}
 use Rattle.archive.proofs.Looks.{found, not_found}
 use Rattle.archive.proofs.Tried.{passed}
-use Rattle.archive.proofs.Later.{same_some, edit_later, before_later, edit_new, before_new, edit_past}
+use Rattle.archive.proofs.Later.{same_some, older_or_new, edit_later, before_later, edit_new, before_new, edit_past}
 
 -- the archive that a table of nodes, its counts, a table of versions and a store are
 abbrev pub archive : {Q S : Type 0} → List (Node Q) → ℕ → List Version → ℕ → S → Archive Q S
@@ -56,12 +55,9 @@ counted_by count used b = record { version = count; written = b.used - used }
 
 -- one edit more at a place of its base's list
 module _ {R : Type 0} (es : List (Edit R)) (e : Edit R) where
-  older_or_new : (v : ℕ) → v ≤ suc (length es) → (v ≤ length es) ⊎ (v ≡ suc (length es))
-  older_or_new v h = elim (dec_le v (length es)) [ yes i ↦ inl i | no i ↦ inr (omega arith) ]
-
   pub one_more_in_place : EachInPlace es → InPlace es e → EachInPlace (e ∷ es)
   one_more_in_place placed there v f q =
-      elim (older_or_new v (edit_past (e ∷ es) v f q)) [
+      elim (older_or_new es v (edit_past (e ∷ es) v f q)) [
         | inl h ↦ subst (λ past. InPlace past f) (sym (before_later e es v h)) (placed v f (sym (edit_later e es v h) ∙ q))
         | inr h ↦ (let same : e ≡ f = same_some e f (sym (edit_new e es) ∙ ap (edit_of (e ∷ es)) (sym h) ∙ q) in
             subst (λ past. InPlace past f) (sym (ap (edits_before (e ∷ es)) h ∙ before_new e es)) (subst (InPlace es) same there))

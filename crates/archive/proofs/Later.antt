@@ -1,5 +1,6 @@
 -- One edit more: what stays of a history, and what is new. Assumes nothing.
-use Rattle.std.proofs.Common.{◌≡◌, ℕ, zero, suc, ◌<◌, ◌≤◌, Bool, true, false, eqb, List, [], ◌∷◌, ◌++◌, length, Some, None, unwrap_or, sym, refl, ap, ◌∙◌, arith, eq-eqb, ne_eqb, eqb-true}
+use Rattle.std.proofs.Common.{◌≡◌, ℕ, zero, suc, ◌<◌, ◌≤◌, ◌⊎◌, inl, inr, Bool, true, false, eqb, List, [], ◌∷◌, ◌++◌, length, Some, None, unwrap_or, sym, refl, ap, ◌∙◌, arith, eq-eqb, ne_eqb, eqb-true}
+use native.Mathlib.Decide.{dec_le}
 use Rattle.std.specs.List.{slice_get}
 use Rattle.std.proofs.lemmas.Bool.{cond-true, cond-false}
 use Rattle.history.specs.Edits.{Edit, lists, list_of, content_of}
@@ -74,6 +75,10 @@ module _ {R : Type 0} (e : Edit R) (es : List (Edit R)) where
       ap (λ o. record_by o (edits_before (e ∷ es) (suc (length es))) (list_of (e ∷ es) (suc (length es))) root) edit_new
       ∙ ap (λ b. record_by (Some e) b (list_of (e ∷ es) (suc (length es))) root) before_new
       ∙ ap (λ l. record_by (Some e) es l root) list_new
+
+-- a version is one of the older ones or the new one
+pub older_or_new : {R : Type 0} (es : List (Edit R)) (v : ℕ) → v ≤ suc (length es) → (v ≤ length es) ⊎ (v ≡ suc (length es))
+older_or_new es v h = elim (dec_le v (length es)) [ yes i ↦ inl i | no i ↦ inr (omega arith) ]
 
 -- no edit gave a version past the last
 pub edit_past : {R : Type 0} (es : List (Edit R)) (v : ℕ) (e : Edit R) → edit_of es v ≡ Some e → v ≤ length es

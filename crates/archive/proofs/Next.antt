@@ -1,6 +1,5 @@
 -- The tables of an archive after one accepted edit more. Assumes nothing.
-use Rattle.std.proofs.Common.{◌≡◌, ℕ, suc, ◌+◌, ◌<◌, ◌≤◌, ◌⊎◌, List, [], ◌∷◌, ◌++◌, length, Some, sym, ap, ◌∙◌, subst, inl, inr, add-one, arith, length-append}
-use native.Mathlib.Decide.{dec_le}
+use Rattle.std.proofs.Common.{◌≡◌, ℕ, suc, ◌+◌, ◌<◌, ◌≤◌, List, [], ◌∷◌, ◌++◌, length, Some, sym, ap, ◌∙◌, subst, inl, inr, add-one, arith, length-append}
 use Rattle.std.specs.List.{slice_get, AllByRecursion}
 use Rattle.summary.specs.Summing.{Summing}
 use Rattle.flexlist.specs.Shape.{FlexList}
@@ -15,7 +14,7 @@ use Rattle.history.proofs.Bounds.{ids_blocks}
 use Rattle.archive.specs.Records.{edit_of, edits_before}
 use Rattle.archive.specs.Stands.{Tables, Fair, VersionStands, TablesStand}
 use Rattle.archive.specs.Steps.{MadeNext, StepsStand}
-use Rattle.archive.proofs.Later.{nth_front, nth_end, nth_within, same_some, list_later, list_new, content_later, edit_later, before_later, edit_new, before_new, edit_past, record_later, record_new}
+use Rattle.archive.proofs.Later.{older_or_new, nth_front, nth_end, nth_within, same_some, list_later, list_new, content_later, edit_later, before_later, edit_new, before_new, edit_past, record_later, record_new}
 use Rattle.archive.proofs.Moved.{Agree, holds_moved}
 
 module _ {R Q : Type 0} (means : Summing R Q) where
@@ -64,10 +63,6 @@ module _ {R Q : Type 0} (means : Summing R Q) where
           few = subst (λ l. length l ≤ 500) (sym new) m.few;
         }
 
-    -- a version is one of the older ones or the new one
-    which : (v : ℕ) → v ≤ suc (length es) → (v ≤ length es) ⊎ (v ≡ suc (length es))
-    which v h = elim (dec_le v (length es)) [ yes i ↦ inl i | no i ↦ inr (omega arith) ]
-
     all_trees : List Laid
     all_trees = st.trees ++ (t ∷ [])
 
@@ -88,7 +83,7 @@ module _ {R Q : Type 0} (means : Summing R Q) where
 
     each_next : (v : ℕ) (o : Laid) → slice_get all_trees v ≡ Some o → VersionStands means (e ∷ es) next v o
     each_next v o q =
-        elim (which v (in_reach v o q)) [
+        elim (older_or_new es v (in_reach v o q)) [
           | inl h ↦ older_stands v o h (sym (tree_older v h) ∙ q)
           | inr h ↦ subst (λ k. VersionStands means (e ∷ es) next k o) (sym h)
               (subst (VersionStands means (e ∷ es) next (suc (length es))) (same_some t o (sym tree_new ∙ ap (slice_get all_trees) (sym h) ∙ q)) new_stands)
@@ -96,7 +91,7 @@ module _ {R Q : Type 0} (means : Summing R Q) where
 
     older_next : (v : ℕ) (f : Edit R) → edit_of (e ∷ es) v ≡ Some f → base_of f < v
     older_next v f q =
-        elim (which v (edit_past (e ∷ es) v f q)) [
+        elim (older_or_new es v (edit_past (e ∷ es) v f q)) [
           | inl h ↦ st.older v f (sym (edit_later e es v h) ∙ q)
           | inr h ↦ (let same : e ≡ f = same_some e f (sym (edit_new e es) ∙ ap (edit_of (e ∷ es)) (sym h) ∙ q) in
               let n = st.counted in
@@ -109,7 +104,7 @@ module _ {R Q : Type 0} (means : Summing R Q) where
 
     shared_next : (v : ℕ) (f : Edit R) (o p : Laid) → edit_of (e ∷ es) v ≡ Some f → slice_get all_trees v ≡ Some o → slice_get all_trees (base_of f) ≡ Some p → Rule (edits_before (e ∷ es) v) f p o
     shared_next v f o p q a c =
-        elim (which v (edit_past (e ∷ es) v f q)) [
+        elim (older_or_new es v (edit_past (e ∷ es) v f q)) [
           | inl h ↦ (let q' = sym (edit_later e es v h) ∙ q in
               let l = st.older v f q' in
               subst (λ past. Rule past f p o) (sym (before_later e es v h)) (st.shared v f o p q' (sym (tree_older v h) ∙ a) (sym (tree_older (base_of f) (omega arith)) ∙ c)))
