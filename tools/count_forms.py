@@ -51,6 +51,7 @@ PATTERNS = [
     ("5d a kind's coding written out in a clause", r"record \{ code = [^}]*\}|coding (?:\w+\.)+coded (?:\w+\.)+wide (?:\w+\.)+bytes"),
     ("5e whose memory a table is", r"ensures lender"),
     ("5f code and width twice", r"fn (?:kind_code|byte_width)\(\)"),
+    ("5g a store's two ghost members, one after the other", r"BlockStore\.rows (?:\w+\.)*BlockStore\.refuses"),
     # 6: buffers with a length beside, arenas
     ("6a a buffer and how much of it is held", r"struct \w+(?:<[^>]*>)? \{[^}]*?\b(?:held|used|count|next): (?:u32|usize)|let mut filled"),
     ("6b a row as a place and a length", r"from: usize,\s+len: usize,"),

@@ -1,9 +1,9 @@
 -- What the questions answer on tables that stand. Assumes nothing.
-use Rattle.std.proofs.Common.{◌≡◌, ℕ, suc, ◌-◌, ◌<◌, ◌≤◌, cond, ltb, leb, List, [], ◌∷◌, map, length, Some, None, Ok, Err, sym, refl, ap, ◌∙◌, ap₂, arith, length-append, le-ltb, le-leb}
+use Rattle.std.proofs.Common.{◌≡◌, ℕ, suc, ◌-◌, ◌<◌, ◌≤◌, cond, ltb, leb, List, [], ◌∷◌, map, length, Some, None, Ok, Err, Option, ok_or, sym, refl, ap, ◌∙◌, ap₂, arith, length-append, le-ltb}
 use borrow.Author.Tests.{lt-leb}
 use Rattle.std.specs.List.{slice_get, AllByRecursion}
 use Rattle.std.proofs.lemmas.Option.{slice_get_past}
-use Rattle.std.proofs.lemmas.Bool.{cond-true, cond-false}
+use Rattle.std.proofs.lemmas.Bool.{cond-false}
 use Rattle.summary.specs.Summing.{Summing}
 use Rattle.flexlist.specs.Shape.{FlexList}
 use Rattle.flexlist.specs.Nodes.{nodes, to_place}
@@ -21,8 +21,7 @@ use Rattle.archive.specs.Records.{readings_in}
 use Rattle.archive.specs.Stands.{Tables, Stands}
 use Rattle.archive.specs.Looking.{in_use}
 use Rattle.archive.specs.Asking.{rows_in, all_readings, reading_found, reading_answer}
-use Rattle.archive.proofs.Later.{some_none}
-use Rattle.archive.proofs.Looks.{BaseFound, found, not_found}
+use Rattle.archive.proofs.Looks.{BaseFound, found}
 use Rattle.archive.proofs.Planned.{same_shape}
 use Rattle.archive.proofs.Roots.{small as few_readings}
 use Rattle.archive.proofs.Standing.{content_lead, tree_ids, in_store}
@@ -62,14 +61,7 @@ module _ {R : Type 0} where
       pub row_is : (p : ℕ) → row_with (rows_of (content_of es) t) p ≡ suc (row_with (rows_in xs) p)
       row_is p = ap (λ rows. row_with rows p) rows_are ∙ after_lead (rows_in xs) p
 
--- no version is in use where none is counted
-pub unused : (versions : List Version) (count v : ℕ) (from : Version) → in_use versions count v ≡ Some from → count ≡ 0 → ⊥
-unused versions count v from q z = some_none from (sym q ∙ cond-true (leb count v) None (slice_get versions v) (le-leb count v (omega arith)))
-
 module _ {R Q S : Type 0} (means : Summing R Q) (rows : S → List (List R)) (s : Tables Q) (store : S) (es : List (Edit R)) (st : Stands means rows es s store) (v : ℕ) where
-  pub version_refused : {A : Type 0} (x y : A) → in_use s.versions s.count v ≡ None → cond (leb (suc (length es)) v) x y ≡ x
-  version_refused x y q = cond-true (leb (suc (length es)) v) x y (not_found means s es st.tables v q)
-
   -- a version found in use
   module _ (from : Version) (q : in_use s.versions s.count v ≡ Some from) where
     pub base : BaseFound means s es st.tables v from
@@ -109,7 +101,7 @@ module _ {R Q S : Type 0} (means : Summing R Q) (rows : S → List (List R)) (s 
         sym (version_known (Err unread.Version) (reading_found (list_of es v) p (slice_get (all_readings (list_of es v)) p))
         ∙ ap (reading_found (list_of es v) p) (slice_get_past (all_readings (list_of es v)) p (omega arith)))
 
-    pub reading_lost : (p : ℕ) → p < from.readings → Reads means (rows store) s.nodes from.root p None → ⊥
+    reading_lost : (p : ℕ) → p < from.readings → Reads means (rows store) s.nodes from.root p None → ⊥
     reading_lost p h r =
         let w = walked in
         let l = long in
@@ -117,7 +109,7 @@ module _ {R Q S : Type 0} (means : Summing R Q) (rows : S → List (List R)) (s 
         let same : length (readings_of (content_of es) base.tree) ≡ length (all_readings (list_of es v)) = ap length w.readings in
         omega arith
 
-    pub reading_there : (p : ℕ) (x : Answer R) → Reads means (rows store) s.nodes from.root p (Some x) → Ok x ≡ reading_answer es v p
+    reading_there : (p : ℕ) (x : Answer R) → Reads means (rows store) s.nodes from.root p (Some x) → Ok x ≡ reading_answer es v p
     unfolding path
     reading_there p x r =
         let w = walked in
@@ -130,3 +122,8 @@ module _ {R Q S : Type 0} (means : Summing R Q) (rows : S → List (List R)) (s 
         ∙ ap (λ u. nodes (to_place u (suc (row_with (rows_in xs) p)))) (same_shape xs (plain t) base.stands.shaped) in
         sym (version_known (Err unread.Version) (reading_found xs p (slice_get (all_readings xs) p)) ∙ ap (reading_found xs p) at
         ∙ ap (λ n. Ok (record { reading = x.reading; path = n })) (sym way))
+
+    -- what the walk finds is the answer
+    pub reading_told : (p : ℕ) → p < from.readings → (r : Option (Answer R)) → Reads means (rows store) s.nodes from.root p r → ok_or r unread.Version ≡ reading_answer es v p
+    reading_told p h None r = absurd (reading_lost p h r)
+    reading_told p h (Some x) r = reading_there p x r

@@ -13,9 +13,8 @@ use Rattle.nodes.specs.Holding.{leaf_node, node_of}
 use Rattle.nodes.proofs.Tables.{nth_set_same}
 use Rattle.archive.specs.declared.version.Version.{Version}
 use Rattle.archive.specs.Records.{begun_record}
-use Rattle.archive.specs.Stands.{Tables, VersionStands, TablesStand}
+use Rattle.archive.specs.Stands.{Tables, VersionStands, TablesStand, tables_of}
 use Rattle.archive.specs.Beginning.{NotBegun, HasBegun, Begin}
-use Rattle.nodes.specs.declared.node.Shape.TheVariants.{Leaf}
 use borrow.Author.Tests.{eqb-false}
 use Rattle.std.proofs.lemmas.Bool.{or_parts}
 use Rattle.archive.proofs.Later.{same_some}
@@ -29,7 +28,7 @@ not_empty m n h = (some m (or_parts (eqb m 0) (eqb n 0) h).0, some n (or_parts (
 
 module _ {R Q : Type 0} (means : Summing R Q) (nodes : List (Node Q)) (versions : List Version) (some_node : 0 < length nodes) (some_version : 0 < length versions) where
   begun : Tables Q
-  begun = record { nodes = set nodes 0 (leaf_node means lead None); used = 1; versions = set versions 0 (begun_record 0); count = 1 }
+  begun = tables_of (set nodes 0 (leaf_node means lead None)) 1 (set versions 0 (begun_record 0)) 1
 
   first : VersionStands means [] begun 0 (last 0 0)
   unfolding begun lists node_of
@@ -56,7 +55,7 @@ module _ {R Q : Type 0} (means : Summing R Q) (nodes : List (Node Q)) (versions 
   at_zero zero t q = subst (VersionStands means [] begun 0) (same_some (last 0 0) t q) first
   at_zero (suc v) t q = let z : ◌≡◌ {A = ℕ} 0 1 = cc in absurd (omega arith)
 
-  pub begun_stands : TablesStand means [] (record { nodes = set nodes 0 (leaf_node means lead None); used = 1; versions = set versions 0 (begun_record 0); count = 1 })
+  pub begun_stands : TablesStand means [] (tables_of (set nodes 0 (leaf_node means lead None)) 1 (set versions 0 (begun_record 0)) 1)
   unfolding begun node_count
   begun_stands =
       let a = length-set nodes 0 (leaf_node means lead None) in
@@ -73,20 +72,12 @@ module _ {R Q : Type 0} (means : Summing R Q) (nodes : List (Node Q)) (versions 
         shared = λ v e t o q. let z : ◌≡◌ {A = ℕ} 0 1 = cc in absurd (omega arith);
       }
 
-  -- the lead's leaf, by the summary of no reading
-  lead_leaf : Q → Node Q
-  lead_leaf q = record { shape = Leaf 0 0 None; readings = 0; blocks = 0; summary = q }
-
-  has : (q : Q) → q ≡ means.none → HasBegun means nodes versions (record { used = 1; count = 1 }) (set nodes 0 (lead_leaf q)) (set versions 0 (begun_record 0))
-  unfolding lead_leaf
-  has q e = subst (λ p. HasBegun means nodes versions (record { used = 1; count = 1 }) (set nodes 0 (lead_leaf p)) (set versions 0 (begun_record 0))) (sym e)
-      (record { used = refl; count = refl; node = refl; version = refl; stands = begun_stands })
-
-  pub begins : (q : Q) → q ≡ means.none → Begin means nodes versions (record { used = 1; count = 1 }) (set nodes 0 (record { shape = Leaf 0 0 None; readings = 0; blocks = 0; summary = q })) (set versions 0 (begun_record 0))
-  unfolding lead_leaf
-  begins q e =
+  pub begins : Begin means nodes versions (record { used = 1; count = 1 }) (set nodes 0 (leaf_node means lead None)) (set versions 0 (begun_record 0))
+  begins =
       let a = ne_eqb (length nodes) 0 (λ h. omega arith) in
       let b = ne_eqb (length versions) 0 (λ h. omega arith) in
       let neither : (eqb (length nodes) 0 || eqb (length versions) 0) ≡ false = ap (λ t. t || eqb (length versions) 0) a ∙ b in
-      subst (λ t. MatchBool t (NotBegun nodes versions (record { used = 1; count = 1 }) (set nodes 0 (lead_leaf q)) (set versions 0 (begun_record 0)))
-      (HasBegun means nodes versions (record { used = 1; count = 1 }) (set nodes 0 (lead_leaf q)) (set versions 0 (begun_record 0)))) (sym neither) (has q e)
+      let after = set nodes 0 (leaf_node means lead None) in
+      let recorded = set versions 0 (begun_record 0) in
+      subst (λ t. MatchBool t (NotBegun nodes versions (record { used = 1; count = 1 }) after recorded) (HasBegun means nodes versions (record { used = 1; count = 1 }) after recorded)) (sym neither)
+      (record { used = refl; count = refl; node = refl; version = refl; stands = begun_stands })

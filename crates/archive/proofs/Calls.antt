@@ -1,6 +1,6 @@
 -- From the edits over plain slices to the edits on a node table. Assumes nothing.
-use Rattle.std.proofs.Common.{◌≡◌, ℕ, suc, ◌+◌, ◌-◌, ◌<◌, inl, inr, leb, List, ◌∷◌, length, Some, None, Ok, Err, Option, Result, sym, refl, ap, ◌∙◌, subst, arith, ltb-false, leb-false}
-use Rattle.std.proofs.lemmas.Bool.{cond-true}
+use Rattle.store.specs.Keeping.{Keeping}
+use Rattle.std.proofs.Common.{◌≡◌, ℕ, ◌+◌, ◌-◌, ◌<◌, inl, inr, List, ◌∷◌, length, Some, None, Ok, Err, Option, Result, sym, refl, ap, ◌∙◌, subst, arith, ltb-false, leb-false}
 use Rattle.summary.specs.Summing.{Summing}
 use Rattle.store.specs.declared.cause.Cause.{Cause}
 use Rattle.store.specs.Interface.{Placed, Taken}
@@ -13,35 +13,29 @@ use Rattle.nodes.specs.declared.walks.Built.{Built}
 use Rattle.questions.specs.declared.found.Answer.{Answer}
 use Rattle.archive.specs.declared.version.Version.{Version}
 use Rattle.archive.specs.declared.fault.EditFault.{EditFault}
-use Rattle.archive.specs.declared.fault.EditFault.TheVariants as fault
 use Rattle.archive.specs.declared.fault.ReadFault.{ReadFault}
 use Rattle.archive.specs.declared.fault.ReadFault.TheVariants as unread
 use Rattle.archive.specs.declared.table.Accepted.{Accepted}
-use Rattle.archive.specs.Stands.{Tables, Stands}
+use Rattle.archive.specs.Stands.{Tables, Stands, tables_of}
 use Rattle.archive.specs.Looking.{in_use}
 use Rattle.archive.specs.Refusals.{insert_refusal, change_refusal, removal_refusal}
 use Rattle.archive.specs.Editing.{ByRefusal, RowEditLeft, RowAccepted, InsertLaw, ChangeLaw, RemovalDone, RemovalAccepted, RemovalLaw}
 use Rattle.archive.specs.Records.{edit_of, edits_before}
-use Rattle.archive.specs.Calling.{Asked, Archive, Answered, EachInPlace, StandsInPlace, EditDone, EditKept, Standing, EditAccepted, EditTold, EditLaw, ReadingTold, SpanTold, SummaryTold}
+use Rattle.archive.specs.Calling.{Archive, Answered, EachInPlace, StandsInPlace, EditAccepted, EditTold, EditLaw, ReadingTold, SpanTold, SummaryTold}
 use Rattle.archive.specs.Asking.{ReadingLaw, SpanLeft, SpanLaw, SummaryLaw}
 use Rattle.archive.specs.Calling as asked
 use Rattle.archive.proofs.Inserts.{sub_is}
-use Rattle.archive.proofs.Looks.{found, not_found}
+use Rattle.archive.proofs.Looks.{found}
 use Rattle.archive.proofs.Tried.{passed}
 use Rattle.archive.proofs.Later.{same_some, older_or_new, edit_later, before_later, edit_new, before_new, edit_past}
 
 -- the archive that a table of nodes, its counts, a table of versions and a store are
 abbrev pub archive : {Q S : Type 0} → List (Node Q) → ℕ → List Version → ℕ → S → Archive Q S
-archive nodes used versions count store = record { tables = record { nodes = nodes; used = used; versions = versions; count = count }; store = store }
+archive nodes used versions count store = record { tables = tables_of nodes used versions count; store = store }
 
 pub same_archive : {Q S : Type 0} (n m : List (Node Q)) (u w : ℕ) (v y : List Version) (k l : ℕ) (s t : S) → n ≡ m → u ≡ w → v ≡ y → k ≡ l → s ≡ t → archive n u v k s ≡ archive m w y l t
 same_archive n m u w v y k l s t a b c d e =
     ap (λ x. archive x u v k s) a ∙ (ap (λ x. archive m x v k s) b ∙ (ap (λ x. archive m w x k s) c ∙ (ap (λ x. archive m w y x s) d ∙ ap (λ x. archive m w y l x) e)))
-
--- an answer that was refused is refused with whatever else would have been accepted
-pub still_refused : {A : Type 0} (o : Option EditFault) (f : EditFault) (accepted : Built → Type 0) (accepts : A → Type 0) (refused : Cause → Type 0) → ByRefusal o (Err f) accepted refused → Answered o (Err f) accepts refused
-still_refused (Some g) f accepted accepts refused h = let q : f ≡ g = cc in ap Err q
-still_refused None f accepted accepts refused h = h
 
 -- an answer that was accepted met no refusal
 pub still_accepted : {A : Type 0} (o : Option EditFault) (b : Built) (x : A) (accepted : Built → Type 0) (accepts : A → Type 0) (refused : Cause → Type 0) → ByRefusal o (Ok b) accepted refused
@@ -74,26 +68,20 @@ module _ {R Q : Type 0} (t : Tables Q) (es : List (Edit R)) where
   removal_in_place : (base place : ℕ) → removal_refusal t es base place ≡ None → InPlace es (edits.Edit.removal base place)
   removal_in_place base place e = leb-false (length (list_of es base)) place (passed _ _ _ (passed _ _ _ e).1).0
 
-module _ {R Q S : Type 0} (means : Summing R Q) (rows : S → List (List R)) (refuses : S → List R → Cause → Type 0) (s : Archive Q S) (nodes : List (Node Q)) (sized : length nodes ≡ length s.tables.nodes) (versions : List Version) (after : S) where
+module _ {R Q S : Type 0} (means : Summing R Q) (keeps : Keeping S R) (s : Archive Q S) (nodes : List (Node Q)) (sized : length nodes ≡ length s.tables.nodes) (versions : List Version) (after : S) where
   -- an edit with a row that was taken: what was left
-  module _ (row : List R) (b : Built) (left : RowEditLeft means rows refuses s.tables s.store row b nodes versions after) where
+  module _ (row : List R) (b : Built) (left : RowEditLeft means keeps s.tables s.store row b nodes versions after) where
     done_growth : b.used ≡ s.tables.used + (b.used - s.tables.used)
     done_growth = let m = left.grown.more in omega arith
 
-    pub insert_done : (base place level : ℕ) → EditDone means rows refuses s (asked.Asked.insert base place level row) (counted_by s.tables.count s.tables.used b) (archive nodes b.used versions (s.tables.count + 1) after)
-    insert_done base place level = record { version = refl; counted = refl; growth = done_growth; sized = sized; grown = left.grown; noted = left.version; recorded = left.recorded; number = left.number; put = left.put }
-
-    pub change_done : (base place : ℕ) → EditDone means rows refuses s (asked.Asked.change base place row) (counted_by s.tables.count s.tables.used b) (archive nodes b.used versions (s.tables.count + 1) after)
-    change_done base place = record { version = refl; counted = refl; growth = done_growth; sized = sized; grown = left.grown; noted = left.version; recorded = left.recorded; number = left.number; put = left.put }
-
     -- the row as it was taken, under the number that the law names
-    taken : (n : ℕ) → Placed (rows s.store) row n (rows after) → Taken rows refuses s.store row n after
+    taken : (n : ℕ) → Placed (keeps.rows s.store) row n (keeps.rows after) → Taken keeps.rows keeps.refuses s.store row n after
     taken n p = record { fits = left.put.fits; some = left.put.some; most = left.put.most; placed = p }
 
-    module _ (base place level : ℕ) (law : InsertLaw means rows refuses s.tables s.store base place level row (Ok b) nodes versions after) where
-      insert_accepted : (es : List (Edit R)) → StandsInPlace means rows refuses es s.tables s.store → insert_refusal s.tables es base place level (length row) ≡ None
-          → RowAccepted means rows refuses es s.tables s.store (edits.Edit.insert base place level) row b nodes versions after
-          → EditAccepted means rows refuses es s (asked.Asked.insert base place level row) (counted_by s.tables.count s.tables.used b) (archive nodes b.used versions (s.tables.count + 1) after)
+    module _ (base place level : ℕ) (law : InsertLaw means keeps s.tables s.store base place level row (Ok b) nodes versions after) where
+      insert_accepted : (es : List (Edit R)) → StandsInPlace means keeps es s.tables s.store → insert_refusal s.tables es base place level (length row) ≡ None
+          → RowAccepted means keeps es s.tables s.store (edits.Edit.insert base place level) row b nodes versions after
+          → EditAccepted means keeps es s (asked.Asked.insert base place level row) (counted_by s.tables.count s.tables.used b) (archive nodes b.used versions (s.tables.count + 1) after)
       insert_accepted es st none acc = record {
         number = acc.number;
         version = st.stands.tables.counted;
@@ -104,14 +92,14 @@ module _ {R Q S : Type 0} (means : Summing R Q) (rows : S → List (List R)) (re
         stands = record { stands = acc.stands; placed = one_more_in_place es (edits.Edit.insert base place level (record { number = acc.number; row = row })) st.placed (insert_in_place s.tables es base place level (record { number = acc.number; row = row }) none) };
       }
 
-      pub insert_ok : base < s.tables.count → EditLaw means rows refuses s (asked.Asked.insert base place level row) (Ok (counted_by s.tables.count s.tables.used b)) (archive nodes b.used versions (s.tables.count + 1) after)
+      pub insert_ok : base < s.tables.count → EditLaw means keeps s (asked.Asked.insert base place level row) (Ok (counted_by s.tables.count s.tables.used b)) (archive nodes b.used versions (s.tables.count + 1) after)
       insert_ok l None st = absurd (omega arith)
       insert_ok l (Some es) st = still_accepted (insert_refusal s.tables es base place level (length row)) b (counted_by s.tables.count s.tables.used b) _ _ _ (law es st.stands) (insert_accepted es st)
 
-    module _ (base place : ℕ) (law : ChangeLaw means rows refuses s.tables s.store base place row (Ok b) nodes versions after) where
-      change_accepted : (es : List (Edit R)) → StandsInPlace means rows refuses es s.tables s.store → change_refusal s.tables es base place (length row) ≡ None
-          → RowAccepted means rows refuses es s.tables s.store (edits.Edit.change base place) row b nodes versions after
-          → EditAccepted means rows refuses es s (asked.Asked.change base place row) (counted_by s.tables.count s.tables.used b) (archive nodes b.used versions (s.tables.count + 1) after)
+    module _ (base place : ℕ) (law : ChangeLaw means keeps s.tables s.store base place row (Ok b) nodes versions after) where
+      change_accepted : (es : List (Edit R)) → StandsInPlace means keeps es s.tables s.store → change_refusal s.tables es base place (length row) ≡ None
+          → RowAccepted means keeps es s.tables s.store (edits.Edit.change base place) row b nodes versions after
+          → EditAccepted means keeps es s (asked.Asked.change base place row) (counted_by s.tables.count s.tables.used b) (archive nodes b.used versions (s.tables.count + 1) after)
       change_accepted es st none acc = record {
         number = acc.number;
         version = st.stands.tables.counted;
@@ -122,7 +110,7 @@ module _ {R Q S : Type 0} (means : Summing R Q) (rows : S → List (List R)) (re
         stands = record { stands = acc.stands; placed = one_more_in_place es (edits.Edit.change base place (record { number = acc.number; row = row })) st.placed (change_in_place s.tables es base place (record { number = acc.number; row = row }) none) };
       }
 
-      pub change_ok : base < s.tables.count → EditLaw means rows refuses s (asked.Asked.change base place row) (Ok (counted_by s.tables.count s.tables.used b)) (archive nodes b.used versions (s.tables.count + 1) after)
+      pub change_ok : base < s.tables.count → EditLaw means keeps s (asked.Asked.change base place row) (Ok (counted_by s.tables.count s.tables.used b)) (archive nodes b.used versions (s.tables.count + 1) after)
       change_ok l None st = absurd (omega arith)
       change_ok l (Some es) st = still_accepted (change_refusal s.tables es base place (length row)) b (counted_by s.tables.count s.tables.used b) _ _ _ (law es st.stands) (change_accepted es st)
 
@@ -131,12 +119,9 @@ module _ {R Q S : Type 0} (means : Summing R Q) (rows : S → List (List R)) (re
     removal_growth : b.used ≡ s.tables.used + (b.used - s.tables.used)
     removal_growth = let m = left.grown.more in omega arith
 
-    pub removal_done : EditDone means rows refuses s (asked.Asked.removal base place) (counted_by s.tables.count s.tables.used b) (archive nodes b.used versions (s.tables.count + 1) s.store)
-    removal_done = record { version = refl; counted = refl; growth = removal_growth; sized = sized; grown = left.grown; noted = left.version; recorded = left.recorded; number = 0; put = refl }
-
-    module _ (law : RemovalLaw means rows s.tables s.store base place (Ok b) nodes versions) where
-      removal_accepted : (es : List (Edit R)) → StandsInPlace means rows refuses es s.tables s.store → removal_refusal s.tables es base place ≡ None → RemovalAccepted means rows es s.tables s.store base place b nodes versions
-          → EditAccepted means rows refuses es s (asked.Asked.removal base place) (counted_by s.tables.count s.tables.used b) (archive nodes b.used versions (s.tables.count + 1) s.store)
+    module _ (law : RemovalLaw means keeps.rows s.tables s.store base place (Ok b) nodes versions) where
+      removal_accepted : (es : List (Edit R)) → StandsInPlace means keeps es s.tables s.store → removal_refusal s.tables es base place ≡ None → RemovalAccepted means keeps.rows es s.tables s.store base place b nodes versions
+          → EditAccepted means keeps es s (asked.Asked.removal base place) (counted_by s.tables.count s.tables.used b) (archive nodes b.used versions (s.tables.count + 1) s.store)
       removal_accepted es st none acc = record {
         number = 0;
         version = st.stands.tables.counted;
@@ -147,26 +132,9 @@ module _ {R Q S : Type 0} (means : Summing R Q) (rows : S → List (List R)) (re
         stands = record { stands = acc.stands; placed = one_more_in_place es (edits.Edit.removal base place) st.placed (removal_in_place s.tables es base place none) };
       }
 
-      pub removal_ok : base < s.tables.count → EditLaw means rows refuses s (asked.Asked.removal base place) (Ok (counted_by s.tables.count s.tables.used b)) (archive nodes b.used versions (s.tables.count + 1) s.store)
+      pub removal_ok : base < s.tables.count → EditLaw means keeps s (asked.Asked.removal base place) (Ok (counted_by s.tables.count s.tables.used b)) (archive nodes b.used versions (s.tables.count + 1) s.store)
       removal_ok l None st = absurd (omega arith)
       removal_ok l (Some es) st = still_accepted (removal_refusal s.tables es base place) b (counted_by s.tables.count s.tables.used b) _ _ _ (law es st.stands) (removal_accepted es st)
-
--- a refusal
-module _ {R Q S : Type 0} (means : Summing R Q) (rows : S → List (List R)) (refuses : S → List R → Cause → Type 0) (s t : Archive Q S) (nodes : List (Node Q)) (versions : List Version) (after : S) (f : EditFault) where
-  pub insert_err : (base place level : ℕ) (row : List R) → InsertLaw means rows refuses s.tables s.store base place level row (Err f) nodes versions after → base < s.tables.count
-      → EditLaw means rows refuses s (asked.Asked.insert base place level row) (Err f) t
-  insert_err base place level row law l None st = absurd (omega arith)
-  insert_err base place level row law l (Some es) st = still_refused (insert_refusal s.tables es base place level (length row)) f _ _ _ (law es st.stands)
-
-  pub change_err : (base place : ℕ) (row : List R) → ChangeLaw means rows refuses s.tables s.store base place row (Err f) nodes versions after → base < s.tables.count
-      → EditLaw means rows refuses s (asked.Asked.change base place row) (Err f) t
-  change_err base place row law l None st = absurd (omega arith)
-  change_err base place row law l (Some es) st = still_refused (change_refusal s.tables es base place (length row)) f _ _ _ (law es st.stands)
-
-  pub removal_err : (base place : ℕ) → RemovalLaw means rows s.tables s.store base place (Err f) nodes versions → base < s.tables.count
-      → EditLaw means rows refuses s (asked.Asked.removal base place) (Err f) t
-  removal_err base place law l None st = absurd (omega arith)
-  removal_err base place law l (Some es) st = still_refused (removal_refusal s.tables es base place) f _ _ _ (law es st.stands)
 
 -- what is accepted may be said in other words
 answered_as : {A : Type 0} (o : Option EditFault) (r : Result A EditFault) (accepted accepts : A → Type 0) (refused : Cause → Type 0) → ((x : A) → accepted x → accepts x) → Answered o r accepted refused → Answered o r accepts refused
@@ -175,22 +143,8 @@ answered_as None (Ok x) accepted accepts refused k h = k x h
 answered_as None (Err f) accepted accepts refused k h = h
 
 -- an append is an insert at the end
-module _ {R Q S : Type 0} (means : Summing R Q) (rows : S → List (List R)) (refuses : S → List R → Cause → Type 0) (s t : Archive Q S) (base : ℕ) (row : List R) where
-  pub append_kept : (place : ℕ) (r : Result Accepted EditFault) → EditKept means rows refuses s (asked.Asked.insert base place 0 row) r t → EditKept means rows refuses s (asked.Asked.append base row) r t
-  append_kept place (Ok x) d = record {
-    version = d.version;
-    counted = d.counted;
-    growth = d.growth;
-    sized = d.sized;
-    grown = d.grown;
-    noted = d.noted;
-    recorded = d.recorded;
-    number = d.number;
-    put = d.put;
-  }
-  append_kept place (Err f) d = d
-
-  append_accepted : (es : List (Edit R)) (x : Accepted) → EditAccepted means rows refuses es s (asked.Asked.insert base (length (list_of es base)) 0 row) x t → EditAccepted means rows refuses es s (asked.Asked.append base row) x t
+module _ {R Q S : Type 0} (means : Summing R Q) (keeps : Keeping S R) (s t : Archive Q S) (base : ℕ) (row : List R) where
+  append_accepted : (es : List (Edit R)) (x : Accepted) → EditAccepted means keeps es s (asked.Asked.insert base (length (list_of es base)) 0 row) x t → EditAccepted means keeps es s (asked.Asked.append base row) x t
   append_accepted es x a = record {
     number = a.number;
     version = a.version;
@@ -202,36 +156,30 @@ module _ {R Q S : Type 0} (means : Summing R Q) (rows : S → List (List R)) (re
   }
 
   pub append_law : (from : Version) (r : Result Accepted EditFault) → in_use s.tables.versions s.tables.count base ≡ Some from
-      → EditLaw means rows refuses s (asked.Asked.insert base from.blocks 0 row) r t → EditLaw means rows refuses s (asked.Asked.append base row) r t
+      → EditLaw means keeps s (asked.Asked.insert base from.blocks 0 row) r t → EditLaw means keeps s (asked.Asked.append base row) r t
   append_law from r q law None st = law None st
   append_law from r q law (Some es) st =
       let blocks = (found means s.tables es st.stands.tables base from q).told_of.blocks_is in
-      let there : EditTold means rows refuses (Some es) s (asked.Asked.insert base (length (list_of es base)) 0 row) r t =
-      subst (λ p. EditTold means rows refuses (Some es) s (asked.Asked.insert base p 0 row) r t) blocks (law (Some es) st) in
+      let there : EditTold means keeps (Some es) s (asked.Asked.insert base (length (list_of es base)) 0 row) r t =
+      subst (λ p. EditTold means keeps (Some es) s (asked.Asked.insert base p 0 row) r t) blocks (law (Some es) st) in
       answered_as (insert_refusal s.tables es base (length (list_of es base)) 0 (length row)) r _ _ _ (append_accepted es) there
 
-  pub append_unknown : in_use s.tables.versions s.tables.count base ≡ None → EditLaw means rows refuses s (asked.Asked.append base row) (Err fault.Version) t
-  append_unknown q None st = refl
-  append_unknown q (Some es) st =
-      subst (λ p. Answered p (Err fault.Version) (λ x. EditAccepted means rows refuses es s (asked.Asked.append base row) x t) (refuses s.store row))
-      (sym (cond-true (leb (suc (length es)) base) (Some fault.Version) _ (not_found means s.tables es st.stands.tables base q))) refl
-
 -- the questions, by the history
-module _ {R Q S : Type 0} (means : Summing R Q) (rows : S → List (List R)) (refuses : S → List R → Cause → Type 0) (lent nodes : List (Node Q)) (same : lent ≡ nodes) (used : ℕ) (versions : List Version) (count : ℕ) (store : S) (v : ℕ) where
-  as_lent : (es : List (Edit R)) → Stands means rows es (archive nodes used versions count store).tables store → Stands means rows es (archive lent used versions count store).tables store
-  as_lent es st = subst (λ n. Stands means rows es (record { nodes = n; used = used; versions = versions; count = count }) store) (sym same) st
+module _ {R Q S : Type 0} (means : Summing R Q) (keeps : Keeping S R) (lent nodes : List (Node Q)) (same : lent ≡ nodes) (used : ℕ) (versions : List Version) (count : ℕ) (store : S) (v : ℕ) where
+  as_lent : (es : List (Edit R)) → Stands means keeps.rows es (archive nodes used versions count store).tables store → Stands means keeps.rows es (archive lent used versions count store).tables store
+  as_lent es st = subst (λ n. Stands means keeps.rows es (tables_of n used versions count) store) (sym same) st
 
-  pub reading_asked : (position : ℕ) (r : Result (Answer R) ReadFault) → (count ≡ 0 → r ≡ Err unread.Version) → ReadingLaw means rows lent versions count store v position r
-      → ReadingTold means rows refuses (archive nodes used versions count store) v position r
+  pub reading_asked : (position : ℕ) (r : Result (Answer R) ReadFault) → (count ≡ 0 → r ≡ Err unread.Version) → ReadingLaw means keeps.rows lent versions count store v position r
+      → ReadingTold means keeps (archive nodes used versions count store) v position r
   reading_asked position r none law None st = none st
   reading_asked position r none law (Some es) st = law es used (as_lent es st.stands)
 
-  pub span_asked : (a b : ℕ) (out after : List R) (r : Result ℕ ReadFault) → (count ≡ 0 → r ≡ Err unread.Version) → SpanLeft a b out r after → SpanLaw means rows lent versions count store v a b out r after
-      → SpanTold means rows refuses (archive nodes used versions count store) v a b out r after
+  pub span_asked : (a b : ℕ) (out after : List R) (r : Result ℕ ReadFault) → (count ≡ 0 → r ≡ Err unread.Version) → SpanLeft a b out r after → SpanLaw means keeps.rows lent versions count store v a b out r after
+      → SpanTold means keeps (archive nodes used versions count store) v a b out r after
   span_asked a b out after r none left law None st = (none st, subst (λ x. SpanLeft a b out x after) (none st) left)
   span_asked a b out after r none left law (Some es) st = law es used (as_lent es st.stands)
 
-  pub summary_asked : (a b : ℕ) (r : Result Q ReadFault) → (count ≡ 0 → r ≡ Err unread.Version) → SummaryLaw means rows lent versions count store v a b r
-      → SummaryTold means rows refuses (archive nodes used versions count store) v a b r
+  pub summary_asked : (a b : ℕ) (r : Result Q ReadFault) → (count ≡ 0 → r ≡ Err unread.Version) → SummaryLaw means keeps.rows lent versions count store v a b r
+      → SummaryTold means keeps (archive nodes used versions count store) v a b r
   summary_asked a b r none law None st = none st
   summary_asked a b r none law (Some es) st = law es used (as_lent es st.stands)

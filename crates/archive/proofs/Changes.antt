@@ -1,9 +1,9 @@
 -- A change, from what its look, its put, its walk and its record leave. Assumes nothing.
+use Rattle.store.specs.Keeping.{Keeping}
 use Rattle.std.proofs.Common.{◌≡◌, ℕ, suc, ◌+◌, ◌-◌, ◌≤◌, false, List, [], ◌∷◌, ◌++◌, length, take, drop, set, Some, Ok, sym, refl, ap, ◌∙◌, subst, arith, length-append, take-append-drop, leb-false}
 use Rattle.std.specs.List.{slice_get, AllByRecursion}
 use Rattle.std.proofs.ByRecursion.{All-append, All-take, All-drop}
 use Rattle.summary.specs.Summing.{Summing}
-use Rattle.store.specs.declared.cause.Cause.{Cause}
 use Rattle.store.specs.Interface.{Taken}
 use Rattle.flexlist.specs.Building.{Plan, made}
 use Rattle.laid.specs.Laid.{Laid, lay, whole}
@@ -13,12 +13,11 @@ use Rattle.history.proofs.Sound.{version_sound}
 use Rattle.history.proofs.Bounds.{edits_bounded}
 use Rattle.nodes.specs.declared.node.Node.{Node}
 use Rattle.nodes.specs.Holding.{Grown}
-use Rattle.nodes.specs.Views.{blocks_in}
+use Rattle.nodes.specs.Views.{blocks_in, readings_in as readings_at}
 use Rattle.nodes.specs.Changing.{change_at, Changed}
 use Rattle.nodes.specs.Walking.{LaidOut, BlockOf}
 use Rattle.nodes.proofs.Parts.{change_keeps}
 use Rattle.nodes.proofs.Plans.{change_plain}
-use Rattle.questions.specs.Readings.{readings_in as readings_at}
 use Rattle.archive.specs.declared.version.Version.{Version}
 use Rattle.archive.specs.declared.version.Kind.TheVariants.{Change}
 use Rattle.archive.specs.Records.{readings_in, edit_record}
@@ -51,15 +50,15 @@ module _ {R : Type 0} where
       length-append (take p xs) (first_changed n c (drop p xs)) ∙ ap (λ k. length (take p xs) + k) (length_first_changed n c (drop p xs))
       ∙ sym (length-append (take p xs) (drop p xs)) ∙ ap length (take-append-drop p xs)
 
-module _ {R Q S : Type 0} (means : Summing R Q) (rows : S → List (List R)) (refuses : S → List R → Cause → Type 0) (s : Tables Q) (store after : S) (base place : ℕ) (row : List R) (from : Version)
+module _ {R Q S : Type 0} (means : Summing R Q) (keeps : Keeping S R) (s : Tables Q) (store after : S) (base place : ℕ) (row : List R) (from : Version)
     (n : ℕ) (nodes : List (Node Q)) (at next some_blocks some_readings : ℕ) where
   -- the record that is written: the root of the new tree counts its blocks and readings
   abbrev pub noted : Version
   noted = record { parent = base; edit = Change; place = place; level = 0; block = n; root = at; blocks = some_blocks; readings = some_readings; written = next - s.used }
 
-  module _ (es : List (Edit R)) (st : Stands means rows es s store) (looked : RefusedOr (change_refusal s es base place (length row)) (slice_get s.versions base) (Ok from))
-      (taken : Taken rows refuses store row n after) (grown : Grown s.nodes s.used nodes next)
-      (walked : Changed means (rows after) s.nodes s.used from.root (place + 1) n (length row) nodes at next) (size : length nodes ≡ length s.nodes)
+  module _ (es : List (Edit R)) (st : Stands means keeps.rows es s store) (looked : RefusedOr (change_refusal s es base place (length row)) (slice_get s.versions base) (Ok from))
+      (taken : Taken keeps.rows keeps.refuses store row n after) (grown : Grown s.nodes s.used nodes next)
+      (walked : Changed means (keeps.rows after) s.nodes s.used from.root (place + 1) n (length row) nodes at next) (size : length nodes ≡ length s.nodes)
       (blocks_read : some_blocks ≡ blocks_in (slice_get nodes at)) (readings_read : some_readings ≡ readings_at (slice_get nodes at)) where
     new : Content R
     new = record { number = n; row = row }
@@ -67,7 +66,7 @@ module _ {R Q S : Type 0} (means : Summing R Q) (rows : S → List (List R)) (re
     xs : List (Item R)
     xs = list_of es base
 
-    accepted : RowAccepted means rows refuses es s store (change base place) row (record { root = at; used = next }) nodes (set s.versions s.count noted) after
+    accepted : RowAccepted means keeps es s store (change base place) row (record { root = at; used = next }) nodes (set s.versions s.count noted) after
     unfolding new xs
     accepted =
         let e = change base place new in
@@ -81,7 +80,7 @@ module _ {R Q S : Type 0} (means : Summing R Q) (rows : S → List (List R)) (re
         let b : BaseFound means s es tb base from = found_below means s es tb base (omega arith) from (looked_ok (change_refusal s es base place (length row)) (slice_get s.versions base) from looked).1 in
         let w = b.stands in
         let open_table = leb-false (version_limit s) (suc (length es)) p.open_table in
-        let kept = placed_kept (rows store) (rows after) row n taken.placed in
+        let kept = placed_kept (keeps.rows store) (keeps.rows after) row n taken.placed in
         let plan : Plan Laid = change_at (suc (length es)) b.tree (suc place) in
         let planned = change_planned es base place b.tree plan w.shaped (kept_spots b.tree plan (change_keeps b.tree (suc (length es)) b.tree (suc place) whole)) new in_place (change_plain (suc (length es)) b.tree (suc place)) in
         let exact = edits_bounded es e in_place in
@@ -89,14 +88,14 @@ module _ {R Q S : Type 0} (means : Summing R Q) (rows : S → List (List R)) (re
         let count_is = tb.counted in
         let used_is = tb.used_up in
         let enough : path xs (suc place) ≤ node_limit s - s.used = subst (λ u. path xs (suc place) ≤ node_limit s - u) (sym used_is) p.enough in
-        let room = has_room means s es tb e from b plan planned (rows after) (path xs (suc place)) bound enough in
-        let block : BlockOf (rows after) (content_of (e ∷ es) (suc (length es))) n (length row) = subst (λ c. BlockOf (rows after) c n (length row)) (sym (brought_is means s es tb e from b))
-        (record { stored = λ _. placed_new (rows store) (rows after) row n taken.placed; number = refl; size = refl }) in
+        let room = has_room means s es tb e from b plan planned (keeps.rows after) (path xs (suc place)) bound enough in
+        let block : BlockOf (keeps.rows after) (content_of (e ∷ es) (suc (length es))) n (length row) = subst (λ c. BlockOf (keeps.rows after) c n (length row)) (sym (brought_is means s es tb e from b))
+        (record { stored = λ _. placed_new (keeps.rows store) (keeps.rows after) row n taken.placed; number = refl; size = refl }) in
         let bp = base_place means s es tb e from b (suc place) (omega arith) in
         let to = bp.1 in
-        let out : LaidOut means (rows after) (content_of (e ∷ es)) s.used plan nodes at next = walked (content_of (e ∷ es)) (suc (length es)) block b.tree (suc place)
-        (base_ready means s es tb e from b (rows after) (rows_kept (rows store) (rows after) kept xs (st.stored base))) (bp.0, omega arith) room in
-        let mw : made plan ≡ written_by es e = made_is means s es tb e from b plan planned (rows after) in
+        let out : LaidOut means (keeps.rows after) (content_of (e ∷ es)) s.used plan nodes at next = walked (content_of (e ∷ es)) (suc (length es)) block b.tree (suc place)
+        (base_ready means s es tb e from b (keeps.rows after) (rows_kept (keeps.rows store) (keeps.rows after) kept xs (st.stored base))) (bp.0, omega arith) room in
+        let mw : made plan ≡ written_by es e = made_is means s es tb e from b plan planned (keeps.rows after) in
         let up : next ≡ s.used + made plan = out.used_up in
         let fits = tb.nodes_fit in
         let fair : AllByRecursion Fair (next_list es e) = all_changed Fair (suc (length es)) place new xs (λ x h. record { level = h.level; some = p.some; most = p.most }) w.fair in
@@ -110,22 +109,22 @@ module _ {R Q S : Type 0} (means : Summing R Q) (rows : S → List (List R)) (re
         let grew : next ≡ s.used + written_by es e = up ∙ ap (λ k. s.used + k) mw in
         let count : next - s.used ≡ written_by es e = sub_is next s.used (written_by es e) grew in
         let is : noted ≡ edit_record es e (next_list es e) at = λ i. record { parent = base; edit = Change; place = place; level = 0; block = n; root = at; blocks = blocks i; readings = readings i; written = count i } in
-        let stored = rows_kept (rows store) (rows after) kept xs (st.stored base) in
+        let stored = rows_kept (keeps.rows store) (keeps.rows after) kept xs (st.stored base) in
         record {
           number = n;
           fits = taken.fits;
           put = taken.placed;
           written = grew;
           stands = record {
-            tables = edit_stands means s es tb e from b plan planned (rows after) nodes at next noted out grown size (omega arith) (omega arith) is fair few;
-            stored = rows_next (rows after) e es (λ v. rows_kept (rows store) (rows after) kept (list_of es v) (st.stored v))
-                (all_changed (λ x. slice_get (rows after) x.content.number ≡ Some x.content.row) (suc (length es)) place new xs (λ x _. placed_new (rows store) (rows after) row n taken.placed) stored);
+            tables = edit_stands means s es tb e from b plan planned (keeps.rows after) nodes at next noted out grown size (omega arith) (omega arith) is fair few;
+            stored = rows_next (keeps.rows after) e es (λ v. rows_kept (keeps.rows store) (keeps.rows after) kept (list_of es v) (st.stored v))
+                (all_changed (λ x. slice_get (keeps.rows after) x.content.number ≡ Some x.content.row) (suc (length es)) place new xs (λ x _. placed_new (keeps.rows store) (keeps.rows after) row n taken.placed) stored);
           };
         }
 
     pub answered : (versions : List Version) → versions ≡ set s.versions s.count noted
-        → ByRefusal (change_refusal s es base place (length row)) (Ok (record { root = at; used = next })) (λ b. RowAccepted means rows refuses es s store (change base place) row b nodes versions after) (refuses store row)
+        → ByRefusal (change_refusal s es base place (length row)) (Ok (record { root = at; used = next })) (λ b. RowAccepted means keeps es s store (change base place) row b nodes versions after) (keeps.refuses store row)
     answered versions is =
-        subst (λ l. ByRefusal (change_refusal s es base place (length row)) (Ok (record { root = at; used = next })) (λ b. RowAccepted means rows refuses es s store (change base place) row b nodes l after) (refuses store row)) (sym is)
+        subst (λ l. ByRefusal (change_refusal s es base place (length row)) (Ok (record { root = at; used = next })) (λ b. RowAccepted means keeps es s store (change base place) row b nodes l after) (keeps.refuses store row)) (sym is)
         (looked_accepted (change_refusal s es base place (length row)) (slice_get s.versions base) from (record { root = at; used = next })
-        (λ b. RowAccepted means rows refuses es s store (change base place) row b nodes (set s.versions s.count noted) after) (refuses store row) looked accepted)
+        (λ b. RowAccepted means keeps es s store (change base place) row b nodes (set s.versions s.count noted) after) (keeps.refuses store row) looked accepted)

@@ -18,7 +18,7 @@ use Rattle.nodes.specs.Walking.{Ready, Room, LaidOut, CountedTo}
 use Rattle.nodes.proofs.Tables.{nth_set_same, nth_set_other}
 use Rattle.archive.specs.declared.version.Version.{Version}
 use Rattle.archive.specs.Records.{edit_record}
-use Rattle.archive.specs.Stands.{Tables, Fair, TablesStand, RowsStand, node_limit, version_limit}
+use Rattle.archive.specs.Stands.{Tables, Fair, TablesStand, RowsStand, node_limit, version_limit, tables_of}
 use Rattle.archive.proofs.Moved.{holds_moved}
 use Rattle.archive.proofs.Next.{agree_later, stands_next}
 use Rattle.archive.proofs.Standing.{ready, lead_empty, leaves_are}
@@ -77,7 +77,7 @@ module _ {R Q : Type 0} (means : Summing R Q) (s : Tables Q) (es : List (Edit R)
     pub edit_stands : (after : List (Node Q)) (at next : ℕ) (v : Version) → LaidOut means rows (content_of (e ∷ es)) s.used plan after at next
         → Grown s.nodes s.used after next → length after ≡ length s.nodes → next ≤ node_limit s → s.count < version_limit s
         → v ≡ edit_record es e (next_list es e) at → AllByRecursion Fair (next_list es e) → length (next_list es e) ≤ 500
-        → TablesStand means (e ∷ es) (record { nodes = after; used = next; versions = set s.versions s.count v; count = s.count + 1 })
+        → TablesStand means (e ∷ es) (tables_of after next (set s.versions s.count v) (s.count + 1))
     edit_stands after at next v l g size fits room is fair few =
         let w = b.stands in
         let m = made_is in

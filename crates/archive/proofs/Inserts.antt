@@ -1,7 +1,8 @@
 -- An insert, from what its look, its put, its walk and its record leave. Assumes nothing.
-use Rattle.std.proofs.Common.{◌≡◌, ℕ, suc, ◌+◌, ◌-◌, ◌*◌, ◌%◌, ◌^◌, ◌<◌, ◌≤◌, List, [], ◌∷◌, ◌++◌, length, take, drop, set, Some, None, Ok, Err, Option, unwrap_or, sym, refl, ap, ◌∙◌, subst, mod-eq_of_lt, arith, length-append, length-drop, take-append-drop, length-take, ltb-false, leb-false}
+use Rattle.store.specs.Keeping.{Keeping}
+use Rattle.std.proofs.Common.{◌≡◌, ℕ, suc, ◌+◌, ◌-◌, ◌*◌, ◌%◌, ◌^◌, ◌<◌, ◌≤◌, List, [], ◌∷◌, ◌++◌, length, take, drop, set, Some, None, Ok, Option, unwrap_or, sym, refl, ap, ◌∙◌, subst, mod-eq_of_lt, arith, length-append, length-drop, take-append-drop, length-take, ltb-false, leb-false}
 use native.Mathlib.Decide.{dec_le}
-use Rattle.std.proofs.lemmas.Option.{slice_get_past}
+use Rattle.std.proofs.lemmas.Option.{slice_get_past, slice_get_within}
 use Rattle.std.specs.List.{slice_get, AllByRecursion}
 use Rattle.std.proofs.ByRecursion.{All-weaker, All-append, All-take, All-drop}
 use Rattle.summary.specs.Summing.{Summing}
@@ -23,13 +24,12 @@ use Rattle.nodes.proofs.Plans.{insert_plain}
 use Rattle.archive.specs.declared.version.Version.{Version}
 use Rattle.archive.specs.declared.version.Kind.TheVariants.{Insert}
 use Rattle.archive.specs.declared.fault.EditFault.{EditFault}
-use Rattle.archive.specs.declared.fault.EditFault.TheVariants.{Store}
 use Rattle.archive.specs.Records.{readings_in, edit_record}
 use Rattle.archive.specs.Stands.{Tables, Fair, RowsStand, Stands, node_limit, version_limit}
 use Rattle.archive.specs.Refusals.{insert_refusal}
 use Rattle.archive.specs.Looking.{RefusedOr}
 use Rattle.archive.specs.Editing.{ByRefusal, RowAccepted}
-use Rattle.archive.proofs.Later.{nth_front, nth_end, nth_within, list_later, list_new}
+use Rattle.archive.proofs.Later.{nth_front, nth_end, list_later, list_new}
 use Rattle.archive.proofs.Planned.{insert_planned}
 use Rattle.archive.proofs.Tried.{passed, all_passed}
 use Rattle.archive.proofs.Looks.{found_below, BaseFound}
@@ -40,17 +40,6 @@ pub looked_ok : (o : Option EditFault) (v : Option Version) (from : Version) →
 looked_ok (Some f) v from h = let z : ◌≡◌ {A = ℕ} 0 1 = cc in absurd (omega arith)
 looked_ok None (Some v) from h = (refl, cc)
 looked_ok None None from h = absurd h
-
--- a look that answers a refusal has met that one first
-pub looked_err : (o : Option EditFault) (v : Option Version) (f : EditFault) (accepted : Built → Type 0) (refused : Cause → Type 0) → RefusedOr o v (Err f) → ByRefusal o (Err f) accepted refused
-looked_err (Some g) v f accepted refused h = let q : f ≡ g = cc in ap Err q
-looked_err None (Some v) f accepted refused h = let z : ◌≡◌ {A = ℕ} 0 1 = cc in absurd (omega arith)
-looked_err None None f accepted refused h = absurd h
-
--- a look that answers a record leaves the answer to the store
-pub looked_refused : (o : Option EditFault) (v : Option Version) (from : Version) (c : Cause) (accepted : Built → Type 0) (refused : Cause → Type 0) → RefusedOr o v (Ok from) → refused c → ByRefusal o (Err (Store c)) accepted refused
-looked_refused (Some f) v from c accepted refused h k = let z : ◌≡◌ {A = ℕ} 0 1 = cc in absurd (omega arith)
-looked_refused None v from c accepted refused h k = (c, refl, k)
 
 pub looked_accepted : (o : Option EditFault) (v : Option Version) (from : Version) (b : Built) (accepted : Built → Type 0) (refused : Cause → Type 0) → RefusedOr o v (Ok from) → accepted b → ByRefusal o (Ok b) accepted refused
 looked_accepted (Some f) v from b accepted refused h k = let z : ◌≡◌ {A = ℕ} 0 1 = cc in absurd (omega arith)
@@ -91,7 +80,7 @@ module _ {R : Type 0} where
   -- what stood in the list of rows still stands, and the row that was put too
   pub placed_kept : (before after : List (List R)) (row : List R) (n : ℕ) → Placed before row n after → (k : ℕ) (r : List R) → slice_get before k ≡ Some r → slice_get after k ≡ Some r
   placed_kept before after row n (earlier same there) k r h = ap (λ l. slice_get l k) same ∙ h
-  placed_kept before after row n (added more is) k r h = ap (λ l. slice_get l k) more ∙ nth_front before (row ∷ []) k (nth_within before k r h) ∙ h
+  placed_kept before after row n (added more is) k r h = ap (λ l. slice_get l k) more ∙ nth_front before (row ∷ []) k (slice_get_within before k r h) ∙ h
 
   pub placed_new : (before after : List (List R)) (row : List R) (n : ℕ) → Placed before row n after → slice_get after n ≡ Some row
   placed_new before after row n (earlier same there) = ap (λ l. slice_get l n) same ∙ there
@@ -115,15 +104,15 @@ module _ {R : Type 0} where
       past : (w : ℕ) → suc (length es) < w → list_of (e ∷ es) w ≡ []
       past w h = let n = (histories_sound (e ∷ es)).0 in ap (λ o. unwrap_or o []) (slice_get_past (lists (e ∷ es)) w (omega arith))
 
-module _ {R Q S : Type 0} (means : Summing R Q) (rows : S → List (List R)) (refuses : S → List R → Cause → Type 0) (s : Tables Q) (store after : S) (base place level : ℕ) (row : List R) (from : Version)
+module _ {R Q S : Type 0} (means : Summing R Q) (keeps : Keeping S R) (s : Tables Q) (store after : S) (base place level : ℕ) (row : List R) (from : Version)
     (n : ℕ) (nodes : List (Node Q)) (at next : ℕ) where
   -- the record that is written
   abbrev pub noted : Version
   noted = record { parent = base; edit = Insert; place = place; level = level; block = n; root = at; blocks = (from.blocks + 1) % 2 ^ 32; readings = (from.readings + length row) % 2 ^ 32; written = next - s.used }
 
-  module _ (es : List (Edit R)) (st : Stands means rows es s store) (looked : RefusedOr (insert_refusal s es base place level (length row)) (slice_get s.versions base) (Ok from))
-      (taken : Taken rows refuses store row n after) (grown : Grown s.nodes s.used nodes next)
-      (walked : Inserted means (rows after) s.nodes s.used from.root place n (length row) nodes at next level) (size : length nodes ≡ length s.nodes) where
+  module _ (es : List (Edit R)) (st : Stands means keeps.rows es s store) (looked : RefusedOr (insert_refusal s es base place level (length row)) (slice_get s.versions base) (Ok from))
+      (taken : Taken keeps.rows keeps.refuses store row n after) (grown : Grown s.nodes s.used nodes next)
+      (walked : Inserted means (keeps.rows after) s.nodes s.used from.root place n (length row) nodes at next level) (size : length nodes ≡ length s.nodes) where
     new : Content R
     new = record { number = n; row = row }
 
@@ -133,7 +122,7 @@ module _ {R Q S : Type 0} (means : Summing R Q) (rows : S → List (List R)) (re
     pub none : insert_refusal s es base place level (length row) ≡ None
     none = (looked_ok _ _ from looked).0
 
-    pub accepted : RowAccepted means rows refuses es s store (insert base place level) row (record { root = at; used = next }) nodes (set s.versions s.count noted) after
+    pub accepted : RowAccepted means keeps es s store (insert base place level) row (record { root = at; used = next }) nodes (set s.versions s.count noted) after
     unfolding new xs
     accepted =
         let e = insert base place level new in
@@ -147,18 +136,18 @@ module _ {R Q S : Type 0} (means : Summing R Q) (rows : S → List (List R)) (re
         let w = b.stands in
         let roomy = leb-false 500 (length xs) p.roomy in
         let open_table = leb-false (version_limit s) (suc (length es)) p.open_table in
-        let kept = placed_kept (rows store) (rows after) row n taken.placed in
+        let kept = placed_kept (keeps.rows store) (keeps.rows after) row n taken.placed in
         let plan : Plan Laid = insert_at (suc (length es)) level b.tree place in
         let planned = insert_planned es base place b.tree plan w.shaped (kept_spots b.tree plan (insert_keeps b.tree (suc (length es)) level b.tree place whole)) level new in_place (insert_plain (suc (length es)) level b.tree place) in
         let bound = edits_bounded es e in_place in
         let count_is = tb.counted in
         let used_is = tb.used_up in
         let enough : path xs place + 2 ≤ node_limit s - s.used = subst (λ u. path xs place + 2 ≤ node_limit s - u) (sym used_is) p.enough in
-        let room = has_room means s es tb e from b plan planned (rows after) (path xs place + 2) bound enough in
-        let block : BlockOf (rows after) (content_of (e ∷ es) (suc (length es))) n (length row) = subst (λ c. BlockOf (rows after) c n (length row)) (sym (brought_is means s es tb e from b))
-        (record { stored = λ _. placed_new (rows store) (rows after) row n taken.placed; number = refl; size = refl }) in
-        let out : LaidOut means (rows after) (content_of (e ∷ es)) s.used plan nodes at next = walked (content_of (e ∷ es)) (suc (length es)) block b.tree place (base_ready means s es tb e from b (rows after) (rows_kept (rows store) (rows after) kept xs (st.stored base))) (base_place means s es tb e from b place in_place) room in
-        let mw : made plan ≡ written_by es e = made_is means s es tb e from b plan planned (rows after) in
+        let room = has_room means s es tb e from b plan planned (keeps.rows after) (path xs place + 2) bound enough in
+        let block : BlockOf (keeps.rows after) (content_of (e ∷ es) (suc (length es))) n (length row) = subst (λ c. BlockOf (keeps.rows after) c n (length row)) (sym (brought_is means s es tb e from b))
+        (record { stored = λ _. placed_new (keeps.rows store) (keeps.rows after) row n taken.placed; number = refl; size = refl }) in
+        let out : LaidOut means (keeps.rows after) (content_of (e ∷ es)) s.used plan nodes at next = walked (content_of (e ∷ es)) (suc (length es)) block b.tree place (base_ready means s es tb e from b (keeps.rows after) (rows_kept (keeps.rows store) (keeps.rows after) kept xs (st.stored base))) (base_place means s es tb e from b place in_place) room in
+        let mw : made plan ≡ written_by es e = made_is means s es tb e from b plan planned (keeps.rows after) in
         let up : next ≡ s.used + made plan = out.used_up in
         let fits = tb.nodes_fit in
         let item : Item R = record { identity = suc (length es); level = level; content = new } in
@@ -176,16 +165,16 @@ module _ {R Q S : Type 0} (means : Summing R Q) (rows : S → List (List R)) (re
           put = taken.placed;
           written = grew;
           stands = record {
-            tables = edit_stands means s es tb e from b plan planned (rows after) nodes at next noted out grown size (omega arith) (omega arith) is fair few;
-            stored = rows_next (rows after) e es (λ v. rows_kept (rows store) (rows after) kept (list_of es v) (st.stored v))
-                (all_between (λ x. slice_get (rows after) x.content.number ≡ Some x.content.row) place xs item (rows_kept (rows store) (rows after) kept xs (st.stored base)) (placed_new (rows store) (rows after) row n taken.placed));
+            tables = edit_stands means s es tb e from b plan planned (keeps.rows after) nodes at next noted out grown size (omega arith) (omega arith) is fair few;
+            stored = rows_next (keeps.rows after) e es (λ v. rows_kept (keeps.rows store) (keeps.rows after) kept (list_of es v) (st.stored v))
+                (all_between (λ x. slice_get (keeps.rows after) x.content.number ≡ Some x.content.row) place xs item (rows_kept (keeps.rows store) (keeps.rows after) kept xs (st.stored base)) (placed_new (keeps.rows store) (keeps.rows after) row n taken.placed));
           };
         }
 
     -- the same as the insert's answer, where the table of versions holds the record
     pub answered : (versions : List Version) → versions ≡ set s.versions s.count noted
-        → ByRefusal (insert_refusal s es base place level (length row)) (Ok (record { root = at; used = next })) (λ b. RowAccepted means rows refuses es s store (insert base place level) row b nodes versions after) (refuses store row)
+        → ByRefusal (insert_refusal s es base place level (length row)) (Ok (record { root = at; used = next })) (λ b. RowAccepted means keeps es s store (insert base place level) row b nodes versions after) (keeps.refuses store row)
     answered versions is =
-        subst (λ l. ByRefusal (insert_refusal s es base place level (length row)) (Ok (record { root = at; used = next })) (λ b. RowAccepted means rows refuses es s store (insert base place level) row b nodes l after) (refuses store row)) (sym is)
+        subst (λ l. ByRefusal (insert_refusal s es base place level (length row)) (Ok (record { root = at; used = next })) (λ b. RowAccepted means keeps es s store (insert base place level) row b nodes l after) (keeps.refuses store row)) (sym is)
         (looked_accepted (insert_refusal s es base place level (length row)) (slice_get s.versions base) from (record { root = at; used = next })
-        (λ b. RowAccepted means rows refuses es s store (insert base place level) row b nodes (set s.versions s.count noted) after) (refuses store row) looked accepted)
+        (λ b. RowAccepted means keeps es s store (insert base place level) row b nodes (set s.versions s.count noted) after) (keeps.refuses store row) looked accepted)

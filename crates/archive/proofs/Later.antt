@@ -20,12 +20,6 @@ module _ {A : Type 0} where
   nth_end (y ∷ xs) x zero e = absurd (omega arith)
   nth_end (y ∷ xs) x (suc k) e = nth_end xs x k (omega arith)
 
-  -- what is found stands within
-  pub nth_within : (xs : List A) (k : ℕ) (x : A) → slice_get xs k ≡ Some x → k < length xs
-  nth_within [] k x e = let z : ◌≡◌ {A = ℕ} 0 1 = cc in absurd (omega arith)
-  nth_within (y ∷ xs) zero x e = omega arith
-  nth_within (y ∷ xs) (suc k) x e = let h = nth_within xs k x e in omega arith
-
   pub same_some : (x y : A) → Some x ≡ Some y → x ≡ y
   same_some x y e = cc
 

@@ -95,27 +95,12 @@ module _ {R Q : Type 0} (means : Summing R Q) (s : Tables Q) (es : List (Edit R)
           let n = st.counted in
           found_below (omega arith) from (sym (cond-false (leb s.count base) None (slice_get s.versions base) p) ∙ q)
 
-  pub not_found : in_use s.versions s.count base ≡ None → leb (suc (length es)) base ≡ true
-  not_found q = go (leb s.count base) refl
-    where
-      go : (b : Bool) → leb s.count base ≡ b → leb (suc (length es)) base ≡ true
-      go true p = subst (λ c. leb c base ≡ true) st.counted p
-      go false p =
-          let h = leb-false s.count base p in
-          let n = st.counted in
-          let m = st.as_many in
-          let t = nth_some st.trees base (omega arith) in
-          absurd (some_none _ (sym (st.each base t.0 t.1).recorded ∙ sym (cond-false (leb s.count base) None (slice_get s.versions base) p) ∙ q))
-
   -- the refusals of every edit: version, place, and what is tried later
   abbrev pub refusal_by : Bool → Option EditFault → Option EditFault
   refusal_by far later = cond (leb (suc (length es)) base) (Some fault.Version) (cond far (Some fault.Place) later)
 
   refusal_known : (far : Bool) (later : Option EditFault) → base ≤ length es → refusal_by far later ≡ cond far (Some fault.Place) later
   refusal_known far later h = cond-false (leb (suc (length es)) base) _ _ (lt-leb (suc (length es)) base (omega arith))
-
-  pub looked_none : (far : Bool) (later : Option EditFault) (o : Option Version) → in_use s.versions s.count base ≡ None → RefusedOr (refusal_by far later) o (Err fault.Version)
-  looked_none far later o q = subst (λ r. RefusedOr r o (Err fault.Version)) (sym (cond-true (leb (suc (length es)) base) _ _ (not_found q))) refl
 
   pub looked_far : (far : Bool) (later : Option EditFault) (o : Option Version) → base ≤ length es → far ≡ true → RefusedOr (refusal_by far later) o (Err fault.Place)
   looked_far far later o h q = subst (λ r. RefusedOr r o (Err fault.Place)) (sym (refusal_known far later h ∙ cond-true far _ _ q)) refl
@@ -162,10 +147,6 @@ module _ {R Q : Type 0} (means : Summing R Q) (s : Tables Q) (es : List (Edit R)
 
   -- ---- the exits of a look
 
-  pub insert_unknown : (place level len : ℕ) → in_use s.versions s.count base ≡ None → RefusedOr (insert_refusal s es base place level len) (slice_get s.versions base) (Err fault.Version)
-  insert_unknown place level len q =
-      looked_none (ltb (length (list_of es base)) place) (later_fault level len (leb 500 (length (list_of es base))) (full s es) (free s es) (path (list_of es base) place + 2)) (slice_get s.versions base) q
-
   pub insert_misplaced : (place level len : ℕ) (from : Version) → in_use s.versions s.count base ≡ Some from → from.blocks < place
       → RefusedOr (insert_refusal s es base place level len) (slice_get s.versions base) (Err fault.Place)
   insert_misplaced place level len from q l =
@@ -201,10 +182,6 @@ module _ {R Q : Type 0} (means : Summing R Q) (s : Tables Q) (es : List (Edit R)
 
   -- ---- the same of a change
 
-  pub change_unknown : (place len : ℕ) → in_use s.versions s.count base ≡ None → RefusedOr (change_refusal s es base place len) (slice_get s.versions base) (Err fault.Version)
-  change_unknown place len q =
-      looked_none (leb (length (list_of es base)) place) (later_fault 0 len false (full s es) (free s es) (path (list_of es base) (suc place))) (slice_get s.versions base) q
-
   pub change_misplaced : (place len : ℕ) (from : Version) → in_use s.versions s.count base ≡ Some from → from.blocks ≤ place
       → RefusedOr (change_refusal s es base place len) (slice_get s.versions base) (Err fault.Place)
   change_misplaced place len from q l =
@@ -230,10 +207,6 @@ module _ {R Q : Type 0} (means : Summing R Q) (s : Tables Q) (es : List (Edit R)
     change_fine e = looked_fine _ _ from (found from q) there (sym later_change ∙ e)
 
   -- ---- the same of a removal
-
-  pub removal_unknown : (place : ℕ) → in_use s.versions s.count base ≡ None → RefusedOr (removal_refusal s es base place) (slice_get s.versions base) (Err fault.Version)
-  removal_unknown place q =
-      looked_none (leb (length (list_of es base)) place) (later_fault 0 1 false (full s es) (free s es) (two_paths (list_of es base) place - 1)) (slice_get s.versions base) q
 
   pub removal_misplaced : (place : ℕ) (from : Version) → in_use s.versions s.count base ≡ Some from → from.blocks ≤ place → RefusedOr (removal_refusal s es base place) (slice_get s.versions base) (Err fault.Place)
   removal_misplaced place from q l =

@@ -1,5 +1,6 @@
 -- The tables of an archive after one accepted edit more. Assumes nothing.
 use Rattle.std.proofs.Common.{◌≡◌, ℕ, suc, ◌+◌, ◌<◌, ◌≤◌, List, [], ◌∷◌, ◌++◌, length, Some, sym, ap, ◌∙◌, subst, inl, inr, add-one, arith, length-append}
+use Rattle.std.proofs.lemmas.Option.{slice_get_within}
 use Rattle.std.specs.List.{slice_get, AllByRecursion}
 use Rattle.summary.specs.Summing.{Summing}
 use Rattle.flexlist.specs.Shape.{FlexList}
@@ -14,7 +15,7 @@ use Rattle.history.proofs.Bounds.{ids_blocks}
 use Rattle.archive.specs.Records.{edit_of, edits_before}
 use Rattle.archive.specs.Stands.{Tables, Fair, VersionStands, TablesStand}
 use Rattle.archive.specs.Steps.{MadeNext, StepsStand}
-use Rattle.archive.proofs.Later.{older_or_new, nth_front, nth_end, nth_within, same_some, list_later, list_new, content_later, edit_later, before_later, edit_new, before_new, edit_past, record_later, record_new}
+use Rattle.archive.proofs.Later.{older_or_new, nth_front, nth_end, same_some, list_later, list_new, content_later, edit_later, before_later, edit_new, before_new, edit_past, record_later, record_new}
 use Rattle.archive.proofs.Moved.{Agree, holds_moved}
 
 module _ {R Q : Type 0} (means : Summing R Q) where
@@ -79,7 +80,7 @@ module _ {R Q : Type 0} (means : Summing R Q) where
     how_many = length-append st.trees (t ∷ []) ∙ add-one (length st.trees) ∙ ap suc st.as_many
 
     in_reach : (v : ℕ) (o : Laid) → slice_get all_trees v ≡ Some o → v ≤ suc (length es)
-    in_reach v o q = let w = nth_within all_trees v o q in let n = how_many in omega arith
+    in_reach v o q = let w = slice_get_within all_trees v o q in let n = how_many in omega arith
 
     each_next : (v : ℕ) (o : Laid) → slice_get all_trees v ≡ Some o → VersionStands means (e ∷ es) next v o
     each_next v o q =

@@ -11,12 +11,11 @@ use Rattle.history.proofs.Sound.{version_sound}
 use Rattle.history.proofs.Bounds.{edits_bounded}
 use Rattle.nodes.specs.declared.node.Node.{Node}
 use Rattle.nodes.specs.Holding.{Grown}
-use Rattle.nodes.specs.Views.{blocks_in}
+use Rattle.nodes.specs.Views.{blocks_in, readings_in as readings_at}
 use Rattle.nodes.specs.Removing.{remove_at, Removed}
 use Rattle.nodes.specs.Walking.{LaidOut}
 use Rattle.nodes.proofs.Parts.{remove_keeps}
 use Rattle.nodes.proofs.Gaps.{remove_plain}
-use Rattle.questions.specs.Readings.{readings_in as readings_at}
 use Rattle.archive.specs.declared.version.Version.{Version}
 use Rattle.archive.specs.declared.version.Kind.TheVariants.{Removal}
 use Rattle.archive.specs.Records.{readings_in, edit_record}

@@ -8,9 +8,9 @@ use Rattle.history.specs.Edits.{Item, Edit, Known, blocks_of, content_of, identi
 use Rattle.history.proofs.Bounds.{ids_blocks}
 use Rattle.nodes.specs.declared.node.Node.{Node}
 use Rattle.nodes.specs.Holding.{Holds}
-use Rattle.nodes.specs.Views.{blocks_in}
+use Rattle.nodes.specs.Views.{blocks_in, readings_in as readings_at}
 use Rattle.nodes.proofs.Held.{blocks_held}
-use Rattle.questions.specs.Readings.{in_order, readings_of, readings_in as readings_at, Small}
+use Rattle.questions.specs.Readings.{in_order, readings_of, Small}
 use Rattle.questions.proofs.Readings.{readings_flex, readings_counted}
 use Rattle.archive.specs.Records.{readings_in}
 use Rattle.archive.specs.Stands.{Fair}

@@ -1,6 +1,6 @@
 -- What the questions for readings a to b − 1 answer on tables that stand. Assumes nothing.
-use Rattle.std.proofs.Common.{◌≡◌, ℕ, ◌-◌, ◌<◌, ◌≤◌, Bool, true, false, cond, ◌||◌, ltb, List, ◌++◌, length, take, drop, Some, None, Ok, Err, Option, sym, refl, ap, ◌∙◌, append-nil, arith, drop_of_length-le, length-take, drop_at, ltb-false, le-ltb, lt-ltb}
-use Rattle.std.proofs.lemmas.Bool.{cond-true, cond-false}
+use Rattle.std.proofs.Common.{◌≡◌, ℕ, ◌-◌, ◌<◌, ◌≤◌, Bool, true, false, cond, ltb, List, ◌++◌, length, take, drop, Some, None, Ok, Err, Option, sym, ap, ◌∙◌, append-nil, arith, drop_of_length-le, ltb-false, le-ltb, lt-ltb}
+use Rattle.std.proofs.lemmas.Bool.{cond-true, cond-false, or_parts}
 use Rattle.summary.specs.Summing.{Summing, summary_of}
 use Rattle.history.specs.Edits.{Edit, list_of, content_of}
 use Rattle.questions.specs.Readings.{readings_of}
@@ -12,21 +12,10 @@ use Rattle.archive.specs.declared.fault.ReadFault.TheVariants as unread
 use Rattle.archive.specs.Stands.{Tables, Stands}
 use Rattle.archive.specs.Looking.{in_use}
 use Rattle.archive.specs.Asking.{outside, all_readings, part, refusal_then, part_refusal, span_refusal, answer_by, output_by, span_answer, span_output, summary_answer}
-use Rattle.archive.proofs.Asks.{base, long, version_refused, version_known, walked}
-
-neither : (p q : Bool) → (p || q) ≡ false → (p ≡ false) × (q ≡ false)
-neither true q e = let z : ◌≡◌ {A = ℕ} 0 1 = cc in absurd (omega arith)
-neither false q e = (refl, e)
+use Rattle.archive.proofs.Asks.{base, long, version_known, walked}
 
 pub stretch_within : (n a b : ℕ) → outside n a b ≡ false → (a ≤ b) × (b ≤ n)
-stretch_within n a b e = let p = neither (ltb b a) (ltb n b) e in (ltb-false b a p.0, ltb-false n b p.1)
-
-pub start_length : {A : Type 0} (out : List A) (n : ℕ) → n ≤ length out → length (take n out) ≡ n
-start_length out n h = let l = length-take n out in omega arith
-
--- what is written to an output's start leaves what stands past it
-pub rest_kept : {A : Type 0} (mid out : List A) (n : ℕ) → length mid ≡ n → drop n (mid ++ drop n out) ≡ drop n out
-rest_kept mid out n e = drop_at mid (drop n out) n e
+stretch_within n a b e = let p = or_parts (ltb b a) (ltb n b) e in (ltb-false b a p.0, ltb-false n b p.1)
 
 -- a refusal is answered, and leaves the output as it was
 pub span_refused : {R : Type 0} (es : List (Edit R)) (v a b : ℕ) (out : List R) (f : ReadFault) → span_refusal es v a b (length out) ≡ Some f
@@ -38,10 +27,6 @@ pub summary_refused : {R Q : Type 0} (means : Summing R Q) (es : List (Edit R)) 
 summary_refused means es v a b f e = ap (λ o. answer_by o (summary_of means (part (list_of es v) a b))) (sym e)
 
 module _ {R Q S : Type 0} (means : Summing R Q) (rows : S → List (List R)) (s : Tables Q) (store : S) (es : List (Edit R)) (st : Stands means rows es s store) (v a b : ℕ) where
-  pub stretch_unknown : (after : Option ReadFault) → in_use s.versions s.count v ≡ None → refusal_then es v a b after ≡ Some unread.Version
-  stretch_unknown after q =
-      version_refused means rows s store es st v (Some unread.Version) (cond (outside (length (all_readings (list_of es v))) a b) (Some unread.Position) after) q
-
   module _ (from : Version) (q : in_use s.versions s.count v ≡ Some from) where
     stretch_known : (after : Option ReadFault) (turned : Bool) → outside from.readings a b ≡ turned → refusal_then es v a b after ≡ cond turned (Some unread.Position) after
     stretch_known after turned e =

@@ -1,5 +1,6 @@
 -- What is known where nothing that is tried later refuses. Assumes nothing.
-use Rattle.std.proofs.Common.{◌≡◌, ℕ, ◌≤◌, Bool, true, false, cond, ◌||◌, Some, None, Option, refl, arith, ltb-false}
+use Rattle.std.proofs.Common.{◌≡◌, ℕ, ◌≤◌, Bool, true, false, cond, Some, None, Option, refl, ltb-false}
+use Rattle.std.proofs.lemmas.Bool.{or_parts}
 use Rattle.archive.specs.declared.fault.EditFault.{EditFault}
 use Rattle.archive.specs.Refusals.{later_fault}
 use Rattle.archive.proofs.Later.{some_none}
@@ -8,10 +9,6 @@ use Rattle.archive.proofs.Later.{some_none}
 pub passed : (b : Bool) (f : EditFault) (o : Option EditFault) → cond b (Some f) o ≡ None → (b ≡ false) × (o ≡ None)
 passed true f o e = absurd (some_none f e)
 passed false f o e = (refl, e)
-
-neither : (a b : Bool) → (a || b) ≡ false → (a ≡ false) × (b ≡ false)
-neither true b e = let z : ◌≡◌ {A = ℕ} 0 1 = cc in absurd (omega arith)
-neither false b e = (refl, e)
 
 pub record Passed (level len : ℕ) (crowded full : Bool) (free need : ℕ) : Type 0 where
   pub flat : level ≤ 15
@@ -28,7 +25,7 @@ all_passed level len crowded full free need e =
     let c = passed _ _ _ b.1 in
     let d = passed _ _ _ c.1 in
     let f = passed _ _ _ d.1 in
-    let g = neither _ _ b.0 in
+    let g = or_parts _ _ b.0 in
     record {
       flat = ltb-false 15 level a.0;
       some = ltb-false len 1 g.0;

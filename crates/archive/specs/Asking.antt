@@ -10,7 +10,7 @@ use Rattle.questions.specs.Readings.{in_order, row_with}
 use Rattle.archive.specs.declared.version.Version.{Version}
 use Rattle.archive.specs.declared.fault.ReadFault.{ReadFault}
 use Rattle.archive.specs.declared.fault.ReadFault.TheVariants as unread
-use Rattle.archive.specs.Stands.{Stands}
+use Rattle.archive.specs.Stands.{Stands, tables_of}
 
 -- does the stretch from a to b − 1 turn round, or pass the end of n readings?
 abbrev pub outside : ℕ → ℕ → ℕ → Bool
@@ -85,15 +85,15 @@ module _ {R : Type 0} where
 module _ {R Q S : Type 0} (means : Summing R Q) (rows : S → List (List R)) (nodes : List (Node Q)) (versions : List Version) (count : ℕ) (store : S) where
   abbrev pub ReadingLaw : ℕ → ℕ → Result (Answer R) ReadFault → Type 0
   ReadingLaw v position r =
-      (es : List (Edit R)) (used : ℕ) → Stands means rows es (record { nodes = nodes; used = used; versions = versions; count = count }) store →
+      (es : List (Edit R)) (used : ℕ) → Stands means rows es (tables_of nodes used versions count) store →
       r ≡ reading_answer es v position
 
   abbrev pub SpanLaw : ℕ → ℕ → ℕ → List R → Result ℕ ReadFault → List R → Type 0
   SpanLaw v a b out r after =
-      (es : List (Edit R)) (used : ℕ) → Stands means rows es (record { nodes = nodes; used = used; versions = versions; count = count }) store →
+      (es : List (Edit R)) (used : ℕ) → Stands means rows es (tables_of nodes used versions count) store →
       (r ≡ span_answer es v a b (length out)) × (after ≡ span_output es v a b out)
 
   abbrev pub SummaryLaw : ℕ → ℕ → ℕ → Result Q ReadFault → Type 0
   SummaryLaw v a b r =
-      (es : List (Edit R)) (used : ℕ) → Stands means rows es (record { nodes = nodes; used = used; versions = versions; count = count }) store →
+      (es : List (Edit R)) (used : ℕ) → Stands means rows es (tables_of nodes used versions count) store →
       r ≡ summary_answer means es v a b

@@ -7,7 +7,7 @@ use Rattle.nodes.specs.Holding.{leaf_node}
 use Rattle.archive.specs.declared.version.Version.{Version}
 use Rattle.archive.specs.declared.begin.Begun.{Begun}
 use Rattle.archive.specs.Records.{begun_record}
-use Rattle.archive.specs.Stands.{TablesStand}
+use Rattle.archive.specs.Stands.{TablesStand, tables_of}
 
 -- where a table is empty nothing is written and no version is there
 pub record NotBegun {Q : Type 0} (nodes : List (Node Q)) (versions : List Version) (r : Begun) (nodes_after : List (Node Q)) (versions_after : List Version) : Type 0 where
@@ -22,7 +22,7 @@ pub record HasBegun {R Q : Type 0} (means : Summing R Q) (nodes : List (Node Q))
   pub count : r.count ≡ 1
   pub node : nodes_after ≡ slice_set nodes 0 (leaf_node means lead None)
   pub version : versions_after ≡ slice_set versions 0 (begun_record 0)
-  pub stands : TablesStand means [] (record { nodes = nodes_after; used = r.used; versions = versions_after; count = r.count })
+  pub stands : TablesStand means [] (tables_of nodes_after r.used versions_after r.count)
 
 abbrev pub Begin : {R Q : Type 0} → Summing R Q → List (Node Q) → List Version → Begun → List (Node Q) → List Version → Type 0
 Begin means nodes versions r nodes_after versions_after =

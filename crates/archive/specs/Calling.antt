@@ -1,9 +1,10 @@
 -- What the calls answer and leave, and what then stands: the edits, whichever it is, and the questions. Assumes nothing.
+use Rattle.store.specs.Keeping.{Keeping}
 use Rattle.std.specs.Prelude.{◌≡◌, ℕ, suc, ◌+◌, List, ◌∷◌, length, Some, None, Ok, Err, Option, Result, slice_set}
 use Rattle.summary.specs.Summing.{Summing}
 use Rattle.store.specs.declared.cause.Cause.{Cause}
 use Rattle.store.specs.Interface.{Taken}
-use Rattle.history.specs.Edits.{Content, Edit, list_of}
+use Rattle.history.specs.Edits.{Edit, list_of}
 use Rattle.history.specs.Edits as edits
 use Rattle.history.specs.Replay.{written_by, InPlace, WithinBound}
 use Rattle.nodes.specs.Holding.{Grown}
@@ -16,7 +17,7 @@ use Rattle.archive.specs.declared.fault.ReadFault.TheVariants as unread
 use Rattle.archive.specs.declared.table.Accepted.{Accepted}
 use Rattle.archive.specs.declared.table.NodeTable.{NodeTable}
 use Rattle.archive.specs.Records.{edit_of, edits_before}
-use Rattle.archive.specs.Stands.{Tables, Stands}
+use Rattle.archive.specs.Stands.{Tables, Stands, tables_of}
 use Rattle.archive.specs.Refusals.{insert_refusal, change_refusal, removal_refusal}
 use Rattle.archive.specs.Asking.{reading_answer, span_answer, span_output, summary_answer}
 
@@ -33,7 +34,7 @@ pub record Archive (Q S : Type 0) : Type 0 where
   pub store : S
 
 abbrev pub archive_of : {Q S : Type 0} → NodeTable Q → List Version → S → Archive Q S
-archive_of t versions store = record { tables = record { nodes = t.nodes.now; used = t.used; versions = versions; count = t.count }; store = store }
+archive_of t versions store = record { tables = tables_of t.nodes.now t.used versions t.count; store = store }
 
 module _ {R : Type 0} where
   -- The edit that is asked for after the edits es, where n is its row's number in the store, if it has a row. An append is an insert at the end with
@@ -61,19 +62,19 @@ Answered (Some f) r accepted refused = r ≡ Err f
 Answered None (Ok x) accepted refused = accepted x
 Answered None (Err f) accepted refused = (c : Cause) × (f ≡ fault.Store c) × refused c
 
-module _ {R Q S : Type 0} (means : Summing R Q) (rows : S → List (List R)) (refuses : S → List R → Cause → Type 0) where
+module _ {R Q S : Type 0} (means : Summing R Q) (keeps : Keeping S R) where
   -- a row is put once, and a removal has none
   abbrev pub RowPut : S → Asked R → ℕ → S → Type 0
-  RowPut s (insert base place level row) n t = Taken rows refuses s row n t
-  RowPut s (append base row) n t = Taken rows refuses s row n t
-  RowPut s (change base place row) n t = Taken rows refuses s row n t
+  RowPut s (insert base place level row) n t = Taken keeps.rows keeps.refuses s row n t
+  RowPut s (append base row) n t = Taken keeps.rows keeps.refuses s row n t
+  RowPut s (change base place row) n t = Taken keeps.rows keeps.refuses s row n t
   RowPut s (removal base place) n t = t ≡ s
 
   -- with this cause the store refuses the row; a removal it never refuses
   abbrev pub RowRefused : S → Asked R → Cause → Type 0
-  RowRefused s (insert base place level row) c = refuses s row c
-  RowRefused s (append base row) c = refuses s row c
-  RowRefused s (change base place row) c = refuses s row c
+  RowRefused s (insert base place level row) c = keeps.refuses s row c
+  RowRefused s (append base row) c = keeps.refuses s row c
+  RowRefused s (change base place row) c = keeps.refuses s row c
   RowRefused s (removal base place) c = ⊥
 
   -- What an accepted edit left, whatever the tables held: free nodes were written, as many as it says; one record, of the next version; its row was put
@@ -96,7 +97,7 @@ module _ {R Q S : Type 0} (means : Summing R Q) (rows : S → List (List R)) (re
 
   -- the tables and the store stand for edits, each of which is at a place of its base's list
   pub record StandsInPlace (es : List (Edit R)) (t : Tables Q) (store : S) : Type 0 where
-    pub stands : Stands means rows es t store
+    pub stands : Stands means keeps.rows es t store
     pub placed : EachInPlace es
 
   -- What stands: an archive after the edits of a history, the newest first; or one without versions, which has none.
@@ -144,12 +145,12 @@ module _ {R : Type 0} where
   summary_told means (Some es) v a b = summary_answer means es v a b
 
 -- what the questions mean on an archive that stands
-module _ {R Q S : Type 0} (means : Summing R Q) (rows : S → List (List R)) (refuses : S → List R → Cause → Type 0) (s : Archive Q S) where
+module _ {R Q S : Type 0} (means : Summing R Q) (keeps : Keeping S R) (s : Archive Q S) where
   abbrev pub ReadingTold : ℕ → ℕ → Result (Answer R) ReadFault → Type 0
-  ReadingTold v position r = (h : Option (List (Edit R))) → Standing means rows refuses h s → r ≡ reading_told h v position
+  ReadingTold v position r = (h : Option (List (Edit R))) → Standing means keeps h s → r ≡ reading_told h v position
 
   abbrev pub SpanTold : ℕ → ℕ → ℕ → List R → Result ℕ ReadFault → List R → Type 0
-  SpanTold v a b out r after = (h : Option (List (Edit R))) → Standing means rows refuses h s → (r ≡ span_told h v a b (length out)) × (after ≡ span_leaves h v a b out)
+  SpanTold v a b out r after = (h : Option (List (Edit R))) → Standing means keeps h s → (r ≡ span_told h v a b (length out)) × (after ≡ span_leaves h v a b out)
 
   abbrev pub SummaryTold : ℕ → ℕ → ℕ → Result Q ReadFault → Type 0
-  SummaryTold v a b r = (h : Option (List (Edit R))) → Standing means rows refuses h s → r ≡ summary_told means h v a b
+  SummaryTold v a b r = (h : Option (List (Edit R))) → Standing means keeps h s → r ≡ summary_told means h v a b

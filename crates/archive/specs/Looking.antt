@@ -18,5 +18,5 @@ RefusedOr None (Some v) r = r ≡ Ok v
 RefusedOr None None r = ⊥
 
 -- a look at tables that stand for some edits answers the replay's refusal or the base's record
-abbrev pub Looked : {R Q : Type 0} → Summing R Q → Tables Q → (List (Edit R) → Option EditFault) → ℕ → Result Version EditFault → Type 0
-Looked {R} means s refusal base r = (es : List (Edit R)) → TablesStand means es s → RefusedOr (refusal es) (slice_get s.versions base) r
+abbrev pub Looked : {R Q : Type 0} → Summing R Q → Tables Q → (Tables Q → List (Edit R) → Option EditFault) → ℕ → Result Version EditFault → Type 0
+Looked {R} means s refusal base r = (es : List (Edit R)) → TablesStand means es s → RefusedOr (refusal s es) (slice_get s.versions base) r

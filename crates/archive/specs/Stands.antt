@@ -19,6 +19,9 @@ pub record Tables (Q : Type 0) : Type 0 where
   pub versions : List Version
   pub count : ℕ
 
+abbrev pub tables_of : {Q : Type 0} → List (Node Q) → ℕ → List Version → ℕ → Tables Q
+tables_of nodes used versions count = record { nodes = nodes; used = used; versions = versions; count = count }
+
 -- at most 60,000 nodes and 4,096 versions of the tables are used
 abbrev pub node_limit : {Q : Type 0} → Tables Q → ℕ
 node_limit s = min 60000 (length s.nodes)

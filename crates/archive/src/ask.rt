@@ -12,7 +12,8 @@ use questions::Answer;
 use store::BlockStore;
 use summary::Summary;
 
-// Does the stretch from a to b − 1 turn round, or pass the end of so many readings?
+// Does the stretch from a to b − 1 turn round, or pass the end of so many readings? Two numbers and no range: one that is turned round is part of the
+// promise, and is refused.
 pub(crate) fn outside(readings: u32, a: u32, b: u32) -> bool
     ensures { result ≡ outside readings a b }
 {
@@ -31,16 +32,11 @@ pub(crate) fn reading_in<S: BlockStore, Q: Summary<Reading = S::Reading> + Copy>
     ensures none { count ≡ 0 → result ≡ Err unread.Version }
     ensures law { ReadingLaw Q.Summary.means S.BlockStore.rows nodes.now versions.now count store.now version position result }
 {
-    let Some(from) = version_at(versions, count, version) else {
-        return Err(ReadFault::Version);
-    };
+    let from = version_at(versions, count, version).ok_or(ReadFault::Version)?;
     if from.readings <= position {
         return Err(ReadFault::Position);
     }
-    match questions::reading(nodes, store, from.root, position) {
-        None => Err(ReadFault::Version),
-        Some(answer) => Ok(answer),
-    }
+    questions::reading(nodes, store, from.root, position).ok_or(ReadFault::Version)
 }
 
 // Writes the readings a to b − 1 of a version to the output's start, and answers how many; the rest of the output stays.
@@ -58,9 +54,7 @@ pub(crate) fn span_in<S: BlockStore, Q: Summary<Reading = S::Reading> + Copy>(
     ensures left { SpanLeft a b out.old result out.new }
     ensures law { SpanLaw Q.Summary.means S.BlockStore.rows nodes.now versions.now count store.now version a b out.old result out.new }
 {
-    let Some(from) = version_at(versions, count, version) else {
-        return Err(ReadFault::Version);
-    };
+    let from = version_at(versions, count, version).ok_or(ReadFault::Version)?;
     if outside(from.readings, a, b) {
         return Err(ReadFault::Position);
     }
@@ -85,9 +79,7 @@ pub(crate) fn summary_in<S: BlockStore, Q: Summary<Reading = S::Reading> + Copy>
     ensures none { count ≡ 0 → result ≡ Err unread.Version }
     ensures law { SummaryLaw Q.Summary.means S.BlockStore.rows nodes.now versions.now count store.now version a b result }
 {
-    let Some(from) = version_at(versions, count, version) else {
-        return Err(ReadFault::Version);
-    };
+    let from = version_at(versions, count, version).ok_or(ReadFault::Version)?;
     if outside(from.readings, a, b) {
         return Err(ReadFault::Position);
     }

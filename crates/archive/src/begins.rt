@@ -4,7 +4,7 @@ ghost use Rattle.archive.specs.Beginning.{Begin};
 
 use crate::begin::Begun;
 use crate::version::{Version, begun};
-use nodes::{Node, Shape};
+use nodes::Node;
 use summary::Summary;
 
 // Is a table of so many nodes, or one of so many versions, empty?
@@ -21,16 +21,7 @@ pub(crate) fn begin_in<Q: Summary + Copy>(nodes: &mut [Node<Q>], versions: &mut 
     if is_empty(nodes.len(), versions.len()) {
         return Begun { used: 0, count: 0 };
     }
-    nodes[0] = Node {
-        shape: Shape::Leaf {
-            block: 0,
-            length: 0,
-            after: None,
-        },
-        readings: 0,
-        blocks: 0,
-        summary: Q::nothing(),
-    };
+    nodes[0] = Node::lead();
     versions[0] = begun();
     Begun { used: 1, count: 1 }
 }

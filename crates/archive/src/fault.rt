@@ -5,7 +5,7 @@ ghost use Rattle.archive.specs.declared.fault.EditFault.TheVariants.{Store};
 use store::Cause;
 
 // Why an edit is refused; the first that holds is answered.
-#[derive(Clone, Copy)]
+#[derive(Clone, Copy, PartialEq, Eq, Debug)]
 pub enum EditFault {
     // There is no such version.
     Version,
@@ -26,7 +26,7 @@ pub enum EditFault {
 }
 
 // Why a question is refused.
-#[derive(Clone, Copy)]
+#[derive(Clone, Copy, PartialEq, Eq, Debug)]
 pub enum ReadFault {
     // There is no such version.
     Version,

@@ -1,5 +1,7 @@
 // The look before an edit: every refusal but the store's, with nothing changed.
 ghost use Rattle.std.specs.Prelude.{◌≡◌, ◌-◌, ◌<◌, ◌≤◌, min, length, IfOk, OnOk, nat_le};
+ghost use Rattle.std.specs.Result.{result_err};
+ghost use Rattle.archive.specs.Stands.{tables_of};
 ghost use Rattle.archive.specs.Looking.{in_use, Looked};
 ghost use Rattle.archive.specs.Refusals.{later_fault, insert_refusal, change_refusal, removal_refusal};
 
@@ -14,14 +16,16 @@ pub const NODES: usize = 60_000;
 
 pub const VERSIONS: usize = 4_096;
 
-// The record of a version in use.
+// The record of a version in use. Versions and their count stay two parameters, like the nodes and theirs: the table hands its slices to functions, by
+// the project's rule.
 pub(crate) fn version_at(versions: &[Version], count: u32, version: u32) -> Option<Version>
     ensures { result ≡ in_use versions.now count version }
 {
-    if count <= version || versions.len() <= version as usize {
-        return None;
+    if version < count {
+        versions.get(version as usize).copied()
+    } else {
+        None
     }
-    Some(versions[version as usize])
 }
 
 // What is tried after version and place.
@@ -32,25 +36,25 @@ pub(crate) fn later_fault(
     full: bool,
     free: usize,
     need: usize,
-) -> Option<EditFault>
-    ensures { result ≡ later_fault level len crowded full free need }
+) -> Result<(), EditFault>
+    ensures { result_err result ≡ later_fault level len crowded full free need }
 {
     if level > 15 {
-        return Some(EditFault::Level);
+        return Err(EditFault::Level);
     }
     if len < 1 || len > 1024 {
-        return Some(EditFault::RowLength);
+        return Err(EditFault::RowLength);
     }
     if crowded {
-        return Some(EditFault::Blocks);
+        return Err(EditFault::Blocks);
     }
     if full {
-        return Some(EditFault::Versions);
+        return Err(EditFault::Versions);
     }
     if free < need {
-        return Some(EditFault::Nodes);
+        return Err(EditFault::Nodes);
     }
-    None
+    Ok(())
 }
 
 // How many nodes are free, of those that an archive uses.
@@ -67,6 +71,7 @@ pub(crate) fn is_full(len: usize, count: u32) -> bool
     len.min(VERSIONS) <= count as usize
 }
 
+// Three looks and not one: each has its own order of places and paths, and an edit without a level or a row has none to try.
 pub(crate) fn look_insert<Q: Summary + Copy>(
     nodes: &[Node<Q>],
     used: u32,
@@ -77,32 +82,26 @@ pub(crate) fn look_insert<Q: Summary + Copy>(
     level: u8,
     len: usize,
 ) -> Result<Version, EditFault>
-    ensures looked { Looked Q.Summary.means (record { nodes = nodes.entry.now; used = used; versions = versions.now; count = count }) (λ es. insert_refusal (record { nodes = nodes.entry.now; used = used; versions = versions.now; count = count }) es base place level len) base result }
+    ensures looked { Looked Q.Summary.means (tables_of nodes.now used versions.now count) (λ t es. insert_refusal t es base place level len) base result }
     ensures sized { OnOk result ((1 ≤ len) × (len ≤ 1024)) }
     ensures room { OnOk result ((count < length versions.now) × (count < 4096)) }
 {
-    let Some(from) = version_at(versions, count, base) else {
-        return Err(EditFault::Version);
-    };
+    let from = version_at(versions, count, base).ok_or(EditFault::Version)?;
     if from.blocks < place {
         return Err(EditFault::Place);
     }
-    let Some(way) = path(nodes, from.root, place) else {
-        return Err(EditFault::Version);
-    };
+    let way = path(nodes, from.root, place).ok_or(EditFault::Version)?;
     let crowded = from.blocks >= 500;
     let free = free_nodes(nodes.len(), used);
-    match later_fault(
+    later_fault(
         level,
         len,
         crowded,
         is_full(versions.len(), count),
         free,
         way as usize + 2,
-    ) {
-        Some(fault) => Err(fault),
-        None => Ok(from),
-    }
+    )?;
+    Ok(from)
 }
 
 pub(crate) fn look_change<Q: Summary + Copy>(
@@ -114,32 +113,26 @@ pub(crate) fn look_change<Q: Summary + Copy>(
     place: u32,
     len: usize,
 ) -> Result<Version, EditFault>
-    ensures looked { Looked Q.Summary.means (record { nodes = nodes.entry.now; used = used; versions = versions.now; count = count }) (λ es. change_refusal (record { nodes = nodes.entry.now; used = used; versions = versions.now; count = count }) es base place len) base result }
+    ensures looked { Looked Q.Summary.means (tables_of nodes.now used versions.now count) (λ t es. change_refusal t es base place len) base result }
     ensures sized { OnOk result ((1 ≤ len) × (len ≤ 1024)) }
     ensures placed { IfOk result (λ from. place < from.blocks) }
     ensures room { OnOk result ((count < length versions.now) × (count < 4096)) }
 {
-    let Some(from) = version_at(versions, count, base) else {
-        return Err(EditFault::Version);
-    };
+    let from = version_at(versions, count, base).ok_or(EditFault::Version)?;
     if from.blocks <= place {
         return Err(EditFault::Place);
     }
-    let Some(way) = path(nodes, from.root, place + 1) else {
-        return Err(EditFault::Version);
-    };
+    let way = path(nodes, from.root, place + 1).ok_or(EditFault::Version)?;
     let free = free_nodes(nodes.len(), used);
-    match later_fault(
+    later_fault(
         0,
         len,
         false,
         is_full(versions.len(), count),
         free,
         way as usize,
-    ) {
-        Some(fault) => Err(fault),
-        None => Ok(from),
-    }
+    )?;
+    Ok(from)
 }
 
 pub(crate) fn look_removal<Q: Summary + Copy>(
@@ -150,29 +143,23 @@ pub(crate) fn look_removal<Q: Summary + Copy>(
     base: u32,
     place: u32,
 ) -> Result<Version, EditFault>
-    ensures looked { Looked Q.Summary.means (record { nodes = nodes.entry.now; used = used; versions = versions.now; count = count }) (λ es. removal_refusal (record { nodes = nodes.entry.now; used = used; versions = versions.now; count = count }) es base place) base result }
+    ensures looked { Looked Q.Summary.means (tables_of nodes.now used versions.now count) (λ t es. removal_refusal t es base place) base result }
     ensures placed { IfOk result (λ from. place < from.blocks) }
     ensures room { OnOk result ((count < length versions.now) × (count < 4096)) }
 {
-    let Some(from) = version_at(versions, count, base) else {
-        return Err(EditFault::Version);
-    };
+    let from = version_at(versions, count, base).ok_or(EditFault::Version)?;
     if from.blocks <= place {
         return Err(EditFault::Place);
     }
-    let Some(ways) = paths(nodes, from.root, place + 1) else {
-        return Err(EditFault::Version);
-    };
+    let ways = paths(nodes, from.root, place + 1).ok_or(EditFault::Version)?;
     let free = free_nodes(nodes.len(), used);
-    match later_fault(
+    later_fault(
         0,
         1,
         false,
         is_full(versions.len(), count),
         free,
         (ways as usize).saturating_sub(1),
-    ) {
-        Some(fault) => Err(fault),
-        None => Ok(from),
-    }
+    )?;
+    Ok(from)
 }

@@ -1,4 +1,4 @@
-// The numbers of refusals.
+// The numbers of refusals. Written out, since an enum with a value in a variant has no numbers of its own; the questions' beside the edits'.
 ghost use Rattle.std.specs.Prelude.{◌≡◌};
 ghost use Rattle.archive.specs.Refusals.{edit_number, inner_cause, read_number};
 
@@ -20,7 +20,7 @@ impl EditFault {
         }
     }
 
-    // The number of the store's cause, 0 where the store did not refuse.
+    // The number of the store's cause, 0 where the store did not refuse. No option: by the project's rule a report prints 0 for none.
     pub fn cause(&self) -> u32
         ensures { result ≡ inner_cause self.now }
     {

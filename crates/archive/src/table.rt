@@ -6,13 +6,15 @@ mod calls;
 mod edits;
 
 // What an accepted edit answers: the new version's number, and how many nodes it wrote.
-#[derive(Clone, Copy)]
+#[derive(Clone, Copy, PartialEq, Eq, Debug)]
 pub struct Accepted {
     pub version: u32,
     pub written: u32,
 }
 
-// The caller's nodes, how many of them are in use, and how many versions there are.
+// The caller's nodes, how many of them are in use, and how many versions there are. A slice and how much of it is used, and no vector: the caller's memory
+// is the project's rule, and there is no heap.
+// That a call keeps the reference to them stands as a clause `lender` at each call: an invariant of the type speaks of one value, and not of two.
 #[derive(Drop)]
 pub struct NodeTable<'a, Q> {
     nodes: &'a mut [Node<Q>],

@@ -5,16 +5,17 @@ ghost use Rattle.archive.specs.Records.{begun_record};
 use nodes::Built;
 
 // How a version came about, by the kind byte that its record in a journal has: 0 for version 0, which begin makes.
-#[derive(Clone, Copy)]
+#[derive(Clone, Copy, PartialEq, Eq, Debug, Default)]
 pub enum Kind {
+    #[default]
     Begun = 0,
     Insert = 2,
     Change = 3,
     Removal = 4,
 }
 
-// A version's record. What an edit does not have is 0.
-#[derive(Clone, Copy)]
+// A version's record. What an edit does not have is 0; `Version::default()` is a record that no archive has written.
+#[derive(Clone, Copy, PartialEq, Eq, Debug, Default)]
 pub struct Version {
     pub parent: u32,
     pub edit: Kind,
@@ -32,42 +33,21 @@ pub(crate) fn begun() -> Version
     ensures { result ≡ begun_record 0 }
 {
     Version {
-        parent: 0,
-        edit: Kind::Begun,
-        place: 0,
-        level: 0,
-        block: 0,
-        root: 0,
-        blocks: 0,
-        readings: 0,
         written: 1,
+        ..Version::default()
     }
 }
 
-// The record of a version that an edit gave, by what its walk built.
-pub(crate) fn edited(
-    parent: u32,
-    edit: Kind,
-    place: u32,
-    level: u8,
-    block: u32,
-    blocks: u32,
-    readings: u32,
-    used: u32,
-    built: Built,
-) -> Version
-    requires { used ≤ built.used }
-    ensures { result ≡ record { parent = parent; edit = edit; place = place; level = level; block = block; root = built.root; blocks = blocks; readings = readings; written = built.used - used } }
-{
-    Version {
-        parent,
-        edit,
-        place,
-        level,
-        block,
-        root: built.root,
-        blocks,
-        readings,
-        written: built.used - used,
+impl Version {
+    // The same record with what a walk built: its root, and how many nodes it wrote past those in use.
+    pub(crate) fn walked(self, used: u32, built: Built) -> Version
+        requires { used ≤ built.used }
+        ensures { result ≡ record self { root = built.root; written = built.used - used } }
+    {
+        Version {
+            root: built.root,
+            written: built.used - used,
+            ..self
+        }
     }
 }

@@ -1,32 +1,32 @@
 // The tests: tables of calls at the edges, and runs against plain lists.
-mod call;
+mod free;
 mod large;
+mod outcome;
 mod plain;
 mod rig;
 mod tables;
-mod told;
 mod wander;
 
-use call::Call;
 use large::{ages, brim, crowd, groupings};
-use plain::filled;
+use outcome::Outcome;
 use reading::{Count, Single};
-use rig::{Size, trial};
+use rig::{Ends, Size, trial};
+use runs::Call;
 use sharing::Sharing;
 use std::alloc::Global;
+use std::fmt::Debug;
 use std::process::Abort;
 use std::test::Fail;
 use store::{BlockStore, FlashStore, RowStore};
-use summary::{Peak, Summary, Swing, Tally, summary_of};
-use told::Told;
-use wander::wander;
+use summary::{Highest, Peak, Summary, Swing, Tally, Wrap, summary_of};
+use wander::{next, wander};
 
 // Counts of which about one in eight is missing, most of them small so that peaks are often equal.
 fn counts() -> [Count; 1100] {
     let mut row = [Count { value: i16::MIN }; 1100];
     let mut seed = 20_261_117u32;
     for x in row.iter_mut() {
-        seed = seed.wrapping_mul(1_664_525).wrapping_add(1_013_904_223);
+        seed = next(seed);
         if seed >> 29 != 0 {
             *x = Count::from_bytes(0, ((seed >> 16) & 15) as u8);
         }
@@ -35,16 +35,16 @@ fn counts() -> [Count; 1100] {
 }
 
 // A table of calls on row stores of counts, in an area of so many readings.
-fn counted<Q: Summary<Reading = Count> + Copy + Told>(
+fn counted<Q: Summary<Reading = Count> + Copy + PartialEq + Debug>(
     rt: &impl Abort,
     heap: Global,
     area: usize,
     size: Size,
-    calls: &[(Call, [u32; 3])],
-) -> Result<[u32; 3], Fail> {
+    calls: &[(Call, Outcome)],
+) -> Result<Ends, Fail> {
     let zero = Count { value: 0 };
-    let mut a = filled(heap, zero, area)?;
-    let mut b = filled(heap, zero, area)?;
+    let mut a = vec![in heap; zero; area]?;
+    let mut b = vec![in heap; zero; area]?;
     let readings = counts();
     trial::<RowStore<Count>, Q>(
         rt,
@@ -66,25 +66,25 @@ fn first_inserts(rt: HostRuntime) -> Result<(), Fail> {
         versions: 2,
     };
     let ends = counted::<Peak<Count>>(&rt, heap, 10, size, &tables::THREE)?;
-    assert_eq!(rt; ends, [1, 1, 0]);
+    assert_eq!(rt; (ends.nodes, ends.versions, ends.blocks), (1, 1, 0));
     let size = Size {
         nodes: 4,
         versions: 2,
     };
     let ends = counted::<Tally<Count>>(&rt, heap, 10, size, &tables::FOUR)?;
-    assert_eq!(rt; ends, [3, 2, 1]);
+    assert_eq!(rt; (ends.nodes, ends.versions, ends.blocks), (3, 2, 1));
     let size = Size {
         nodes: 0,
         versions: 2,
     };
     let ends = counted::<Peak<Count>>(&rt, heap, 10, size, &tables::NONE)?;
-    assert_eq!(rt; ends, [0, 0, 0]);
+    assert_eq!(rt; (ends.nodes, ends.versions, ends.blocks), (0, 0, 0));
     let size = Size {
         nodes: 4,
         versions: 0,
     };
     let ends = counted::<Peak<Count>>(&rt, heap, 10, size, &tables::NONE)?;
-    assert_eq!(rt; ends, [0, 0, 0]);
+    assert_eq!(rt; (ends.nodes, ends.versions, ends.blocks), (0, 0, 0));
     Ok(())
 }
 
@@ -96,24 +96,24 @@ fn edges_of_calls(rt: HostRuntime) -> Result<(), Fail> {
         versions: 8,
     };
     let ends = counted::<Peak<Count>>(&rt, heap, 2051, size, &tables::EDGES)?;
-    assert_eq!(rt; [ends[1], ends[2]], [8, 4]);
+    assert_eq!(rt; (ends.versions, ends.blocks), (8, 4));
     let size = Size {
         nodes: 60,
         versions: 19,
     };
     let ends = counted::<Swing>(&rt, heap, 100, size, &tables::SHAPES)?;
-    assert_eq!(rt; ends, [42, 19, 12]);
+    assert_eq!(rt; (ends.nodes, ends.versions, ends.blocks), (42, 19, 12));
     Ok(())
 }
 
 // As many nodes as an edit may need, and one less.
 #[test]
 fn tight_nodes(rt: HostRuntime) -> Result<(), Fail> {
-    let mut nodes = 16usize;
-    for calls in &tables::TIGHT {
+    for (nodes, calls) in [16, 15, 14, 13, 12, 11].into_iter().zip(&tables::TIGHT) {
+        let mut all = tables::LIST.to_vec(rt.alloc())?;
+        all.extend_from_slice(calls)?;
         let size = Size { nodes, versions: 9 };
-        let _ = counted::<Tally<Count>>(&rt, rt.alloc(), 50, size, calls)?;
-        nodes = nodes.saturating_sub(1);
+        counted::<Tally<Count>>(&rt, rt.alloc(), 50, size, &all)?;
     }
     Ok(())
 }
@@ -128,9 +128,9 @@ fn wanderings(rt: HostRuntime) -> Result<(), Fail> {
     };
     for seed in 0..4u32 {
         let calls = wander(heap, seed, 60)?;
-        let _ = counted::<Peak<Count>>(&rt, heap, 130, size, &calls)?;
-        let _ = counted::<Tally<Count>>(&rt, heap, 130, size, &calls)?;
-        let _ = counted::<Swing>(&rt, heap, 130, size, &calls)?;
+        counted::<Peak<Count>>(&rt, heap, 130, size, &calls)?;
+        counted::<Tally<Count>>(&rt, heap, 130, size, &calls)?;
+        counted::<Swing>(&rt, heap, 130, size, &calls)?;
     }
     Ok(())
 }
@@ -156,7 +156,7 @@ fn piled<S: BlockStore<Reading = Count> + Drop>(
         &readings,
         &tables::SHARED,
     )?;
-    assert_eq!(rt; [ends[1], ends[2]], [7, 2]);
+    assert_eq!(rt; (ends.versions, ends.blocks), (7, 2));
     Ok(())
 }
 
@@ -177,7 +177,7 @@ fn packed<S: BlockStore<Reading = Count> + Drop>(
     };
     let readings = counts();
     let ends = trial::<S, Tally<Count>>(rt, heap, one, two, size, &readings, &tables::PACKED)?;
-    assert_eq!(rt; ends, [4, 3, 1000]);
+    assert_eq!(rt; (ends.nodes, ends.versions, ends.blocks), (4, 3, 1000));
     Ok(())
 }
 
@@ -202,9 +202,9 @@ fn crowded(
     area: usize,
     nodes: usize,
     versions: usize,
-    calls: &[(Call, [u32; 2])],
+    calls: &[(Call, Outcome)],
 ) -> Result<u32, Fail> {
-    let mut a = filled(heap, Count { value: 0 }, area)?;
+    let mut a = vec![in heap; Count { value: 0 }; area]?;
     let readings = counts();
     let size = Size { nodes, versions };
     crowd::<RowStore<Count>, Peak<Count>>(rt, heap, RowStore::new(&mut a), size, &readings, calls)
@@ -215,9 +215,9 @@ fn five_hundred_blocks(rt: HostRuntime) -> Result<(), Fail> {
     let heap = rt.alloc();
     let used = crowded(&rt, heap, 510, 20_000, 504, &tables::ROOMY)? as usize;
     let tight = used.saturating_add(1);
-    let _ = crowded(&rt, heap, 500, tight, 501, &tables::ORDER)?;
-    let _ = crowded(&rt, heap, 500, tight, 502, &tables::NODELESS)?;
-    let _ = crowded(
+    crowded(&rt, heap, 500, tight, 501, &tables::ORDER)?;
+    crowded(&rt, heap, 500, tight, 502, &tables::NODELESS)?;
+    crowded(
         &rt,
         heap,
         500,
@@ -237,19 +237,28 @@ fn full_tables(rt: HostRuntime) -> Result<(), Fail> {
     ages::<RowStore<Count>, Peak<Count>>(&rt, heap, RowStore::new(&mut a), &readings)
 }
 
-// Six floats in every grouping; the peak of them all is as given.
-fn floats(rt: &impl Abort, heap: Global, bits: [u32; 6], peak: [u32; 4]) -> Result<(), Fail> {
-    let mut readings = [Single::from_bits(0); 6];
-    for (x, pattern) in readings.iter_mut().zip(bits) {
-        *x = Single::from_bits(pattern);
-    }
-    assert_eq!(rt; summary_of::<Peak<Single>>(&readings).told(), peak);
+// Six floats in every grouping; the peak of them all is as given, by its place and pattern.
+fn floats(
+    rt: &impl Abort,
+    heap: Global,
+    bits: [u32; 6],
+    peak: Option<(u32, u32)>,
+) -> Result<(), Fail> {
+    let readings = bits.map(Single::from_bits);
+    let wanted = Peak {
+        length: Wrap::from(6),
+        highest: peak.map(|(place, pattern)| Highest {
+            place: Wrap::from(place),
+            reading: Single::from_bits(pattern),
+        }),
+    };
+    assert_eq!(rt; summary_of::<Peak<Single>>(&readings), wanted);
     let mut area = [Single::from_bits(5); 1200];
     groupings::<RowStore<Single>, Peak<Single>>(rt, heap, RowStore::new(&mut area), &readings)
 }
 
-// Six patterns, and the length, presence, place and pattern of their peak.
-const FLOATS: [([u32; 6], [u32; 4]); 5] = [
+// Six patterns, and the place and pattern of their peak, if any is present.
+const FLOATS: [([u32; 6], Option<(u32, u32)>); 5] = [
     // some are not a number
     (
         [
@@ -260,7 +269,7 @@ const FLOATS: [([u32; 6], [u32; 4]); 5] = [
             0xC000_0000,
             0x7F80_0001,
         ],
-        [6, 1, 3, 0x4060_0000],
+        Some((3, 0x4060_0000)),
     ),
     // none is a number
     (
@@ -272,7 +281,7 @@ const FLOATS: [([u32; 6], [u32; 4]); 5] = [
             0xFF80_0001,
             0x7FC0_0000,
         ],
-        [6, 0, 0, 0],
+        None,
     ),
     // zeros of both signs rank alike
     (
@@ -284,7 +293,7 @@ const FLOATS: [([u32; 6], [u32; 4]); 5] = [
             0xFF80_0000,
             0x0000_0000,
         ],
-        [6, 1, 0, 0x8000_0000],
+        Some((0, 0x8000_0000)),
     ),
     // below zero, where missing is not 0
     (
@@ -296,7 +305,7 @@ const FLOATS: [([u32; 6], [u32; 4]); 5] = [
             0x7FC0_0000,
             0xFF80_0000,
         ],
-        [6, 1, 2, 0xC000_0000],
+        Some((2, 0xC000_0000)),
     ),
     // infinity is present
     (
@@ -308,7 +317,7 @@ const FLOATS: [([u32; 6], [u32; 4]); 5] = [
             0x7F80_0001,
             0x7F7F_FFFF,
         ],
-        [6, 1, 1, 0x7F80_0000],
+        Some((1, 0x7F80_0000)),
     ),
 ];
 

@@ -1,3 +1,4 @@
+pub mod Refusals
 pub mod TripHistory
 pub mod Codes
 pub mod TripLists

@@ -1,24 +1,20 @@
 -- A journal taken in, entry by entry. Assumes nothing.
-use Rattle.std.proofs.Common.{◌≡◌, ℕ, ◌+◌, ◌-◌, ◌<◌, ◌≤◌, List, [], ◌∷◌, ◌++◌, map, length, drop, Some, None, Ok, Err, Option, Result, sym, refl, ap, ◌∙◌, subst, append_assoc, append-nil, arith, length-append, length-drop}
+use Rattle.store.specs.Keeping.{Keeping}
+use Rattle.std.proofs.Common.{◌≡◌, ℕ, ◌+◌, ◌-◌, ◌≤◌, List, [], ◌∷◌, ◌++◌, map, length, drop, Some, None, Ok, Err, Option, Result, sym, refl, ap, ◌∙◌, subst, append_assoc, append-nil, arith, length-append, length-drop}
 use Rattle.std.specs.List.{AllByRecursion}
 use Rattle.std.proofs.lemmas.List.{drop_all, map_push}
 use Rattle.std.proofs.ByRecursion.{All-push}
 use Rattle.summary.specs.Summing.{Summing}
-use Rattle.store.specs.declared.cause.Cause.{Cause}
 use Rattle.history.specs.Edits.{Edit}
 use Rattle.archive.specs.declared.fault.EditFault.{EditFault}
 use Rattle.archive.specs.declared.table.Accepted.{Accepted}
 use Rattle.archive.specs.Calling.{Archive, Answered, Standing, EditKept, EditAccepted, RowRefused, asked_refusal, edit_asked}
 use Rattle.runs.specs.Runs.{History}
-use Rattle.journal.specs.declared.fault.JournalFault.{JournalFault}
 use Rattle.journal.specs.declared.fault.JournalFault.TheVariants as fault
 use Rattle.journal.specs.declared.fault.LoadFault.{LoadFault}
 use Rattle.journal.specs.Format.{Coding, Entry, row_of, asked_of, head_bytes, entry_bytes, entries_bytes, Fits}
-use Rattle.journal.specs.Format as format
 use Rattle.journal.specs.Faults.{NoEdit}
-use Rattle.journal.specs.Reads.{NoHead}
-use Rattle.journal.specs.Reads as reads
-use Rattle.journal.specs.Loading.{rows_over, Took, TookAll, TookIn, Ended, Loads}
+use Rattle.journal.specs.Loading.{rows_over, Took, TookAll, Ended, Loads}
 use Rattle.journal.specs.Loading as loads
 use Rattle.journal.specs.Taking.{Sent, EntryTaken, EntryStopped}
 use Rattle.journal.specs.Taking as taking
@@ -33,32 +29,27 @@ module _ {R : Type 0} (k : Coding R) where
   entries_bytes_push [] e = append-nil (entry_bytes k e)
   entries_bytes_push (d ∷ es) e = ap (λ l. entry_bytes k d ++ l) (entries_bytes_push es e) ∙ sym (append_assoc (entry_bytes k d) (entries_bytes k es) (entry_bytes k e))
 
-  entry_some : (e : Entry R) → 0 < length (entry_bytes k e)
-  entry_some (format.Entry.insert base place level row) = omega arith
-  entry_some (format.Entry.change base place row) = omega arith
-  entry_some (format.Entry.removal base place) = omega arith
-
-module _ {R Q S : Type 0} (means : Summing R Q) (rows : S → List (List R)) (refuses : S → List R → Cause → Type 0) where
+module _ {R Q S : Type 0} (means : Summing R Q) (keeps : Keeping S R) where
   -- entries that the archive accepted, by the contracts of the calls
   abbrev SentAll : Archive Q S → List (Entry R) → Archive Q S → Type 0
   SentAll s [] t = t ≡ s
-  SentAll s (e ∷ es) t = (u : Archive Q S) × Sent means rows refuses s e u × SentAll u es t
+  SentAll s (e ∷ es) t = (u : Archive Q S) × Sent means keeps s e u × SentAll u es t
 
-  sent_more : (s t u : Archive Q S) (es : List (Entry R)) (e : Entry R) → SentAll s es t → Sent means rows refuses t e u → SentAll s (es ++ (e ∷ [])) u
-  sent_more s t u [] e all one = (u, subst (λ x. Sent means rows refuses x e u) all one, refl)
+  sent_more : (s t u : Archive Q S) (es : List (Entry R)) (e : Entry R) → SentAll s es t → Sent means keeps t e u → SentAll s (es ++ (e ∷ [])) u
+  sent_more s t u [] e all one = (u, subst (λ x. Sent means keeps x e u) all one, refl)
   sent_more s t u (d ∷ es) e all one = (all.0, all.1, sent_more all.0 t u es e all.2 one)
 
   -- on an archive that stands
   record TookOn (h : History R) (s : Archive Q S) (e : Entry R) (t : Archive Q S) : Type 0 where
     history : History R
-    took : Took means rows refuses h s e history t
-    stands : Standing means rows refuses history t
+    took : Took means keeps h s e history t
+    stands : Standing means keeps history t
 
   never : {P : Type 0} (x : Accepted) (f : EditFault) → ◌≡◌ {A = Result Accepted EditFault} (Ok x) (Err f) → P
   never x f q = let z : ◌≡◌ {A = ℕ} 0 1 = cc in absurd (omega arith)
 
-  took_told : (es : List (Edit R)) (s : Archive Q S) (e : Entry R) (t : Archive Q S) (x : Accepted) → EditKept means rows refuses s (asked_of e) (Ok x) t → (o : Option EditFault)
-      → Answered o (Ok x) (λ y. EditAccepted means rows refuses es s (asked_of e) y t) (RowRefused means rows refuses s.store (asked_of e)) → TookOn (Some es) s e t
+  took_told : (es : List (Edit R)) (s : Archive Q S) (e : Entry R) (t : Archive Q S) (x : Accepted) → EditKept means keeps s (asked_of e) (Ok x) t → (o : Option EditFault)
+      → Answered o (Ok x) (λ y. EditAccepted means keeps es s (asked_of e) y t) (RowRefused means keeps s.store (asked_of e)) → TookOn (Some es) s e t
   took_told es s e t x kept (Some f) told = never x f told
   took_told es s e t x kept None told =
       record {
@@ -67,17 +58,17 @@ module _ {R Q S : Type 0} (means : Summing R Q) (rows : S → List (List R)) (re
         stands = told.stands;
       }
 
-  took_one : (h : History R) (s : Archive Q S) (e : Entry R) (t : Archive Q S) → Standing means rows refuses h s → Sent means rows refuses s e t → TookOn h s e t
+  took_one : (h : History R) (s : Archive Q S) (e : Entry R) (t : Archive Q S) → Standing means keeps h s → Sent means keeps s e t → TookOn h s e t
   took_one None s e t st sent = never sent.answer _ (sent.law None st)
   took_one (Some es) s e t st sent = took_told es s e t sent.answer sent.kept (asked_refusal s.tables es (asked_of e)) (sent.law (Some es) st)
 
   record TookAllOn (h : History R) (s : Archive Q S) (es : List (Entry R)) (t : Archive Q S) : Type 0 where
     history : History R
-    took : TookAll means rows refuses h s es history t
-    stands : Standing means rows refuses history t
+    took : TookAll means keeps h s es history t
+    stands : Standing means keeps history t
 
-  took_all : (h : History R) (s : Archive Q S) (es : List (Entry R)) (t : Archive Q S) → Standing means rows refuses h s → SentAll s es t → TookAllOn h s es t
-  took_all h s [] t st all = record { history = h; took = (refl, all); stands = subst (Standing means rows refuses h) (sym all) st }
+  took_all : (h : History R) (s : Archive Q S) (es : List (Entry R)) (t : Archive Q S) → Standing means keeps h s → SentAll s es t → TookAllOn h s es t
+  took_all h s [] t st all = record { history = h; took = (refl, all); stands = subst (Standing means keeps h) (sym all) st }
   took_all h s (e ∷ es) t st all =
       let one = took_one h s e all.0 st all.1 in
       let rest = took_all one.history all.0 es t one.stands all.2 in
@@ -95,10 +86,7 @@ module _ {R Q S : Type 0} (means : Summing R Q) (rows : S → List (List R)) (re
       pub long : length now ≡ length area
       pub row_area : now ≡ rows_over area (map row_of taken)
 
-    pub so_far_none : (s : Archive Q S) (area : List R) (bytes : List ℕ) → bytes ≡ head_bytes k ++ drop 3 bytes → SoFar s s area area bytes 3
-    so_far_none s area bytes head = record { taken = []; fit = tt; roomy = tt; split = head; place = refl; sent = refl; long = refl; row_area = refl }
-
-    pub so_far_more : (s t u : Archive Q S) (area now after : List R) (bytes : List ℕ) (at next : ℕ) → SoFar s t area now bytes at → EntryTaken means rows refuses k t now bytes at next u after → SoFar s u area after bytes next
+    pub so_far_more : (s t u : Archive Q S) (area now after : List R) (bytes : List ℕ) (at next : ℕ) → SoFar s t area now bytes at → EntryTaken means keeps k t now bytes at next u after → SoFar s u area after bytes next
     so_far_more s t u area now after bytes at next so one =
         let e = one.entry in
         let es = so.taken in
@@ -120,19 +108,11 @@ module _ {R Q S : Type 0} (means : Summing R Q) (rows : S → List (List R)) (re
               one.put ∙ (ap (λ l. row_of e ++ drop (length (row_of e)) l) so.row_area ∙ (sym (rows_over_push area (map row_of es) (row_of e)) ∙ ap (rows_over area) (sym (map_push row_of es e))));
         }
 
-    -- each entry takes the place on
-    pub further : (t u : Archive Q S) (now after : List R) (bytes : List ℕ) (at next : ℕ) → EntryTaken means rows refuses k t now bytes at next u after → at < next
-    further t u now after bytes at next one = let a = one.next_is in let b = entry_some k one.entry in omega arith
-
-    pub no_head : (f : JournalFault) (h : History R) (s : Archive Q S) (area : List R) (bytes : List ℕ) → NoHead k bytes f → Loads means rows refuses k h s area bytes (Err (record { fault = f; place = 0 })) s area
-    no_head f h s area bytes (reads.NoHead.short l e) = loads.Loads.short l (ap (λ x. Err (record { fault = x; place = 0 })) e) refl refl
-    no_head f h s area bytes (reads.NoHead.other l n e) = loads.Loads.no_head l n (ap (λ x. Err (record { fault = x; place = 0 })) e) refl refl
-
-    module _ (s t : Archive Q S) (area now : List R) (bytes : List ℕ) (at : ℕ) (so : SoFar s t area now bytes at) (h : History R) (st : Standing means rows refuses h s) where
+    module _ (s t : Archive Q S) (area now : List R) (bytes : List ℕ) (at : ℕ) (so : SoFar s t area now bytes at) (h : History R) (st : Standing means keeps h s) where
       on : TookAllOn h s so.taken t
       on = took_all h s so.taken t st so.sent
 
-      pub so_far_whole : (n : ℕ) → length bytes ≤ at → n ≡ t.tables.count → Loads means rows refuses k h s area bytes (Ok n) t now
+      pub so_far_whole : (n : ℕ) → length bytes ≤ at → n ≡ t.tables.count → Loads means keeps k h s area bytes (Ok n) t now
       so_far_whole n end count =
           loads.Loads.read (record {
             taken = so.taken;
@@ -149,8 +129,8 @@ module _ {R Q S : Type 0} (means : Summing R Q) (rows : S → List (List R)) (re
           })
 
       -- the same with a row, or a part of one, put to the row area past the entries
-      stopped_with : (r : Result ℕ LoadFault) (row after : List R) → Ended means rows refuses k (length area) (3 + length (entries_bytes k so.taken)) on.history t (drop at bytes) (row ∷ []) r
-          → after ≡ row ++ drop (length row) now → Loads means rows refuses k h s area bytes r t after
+      stopped_with : (r : Result ℕ LoadFault) (row after : List R) → Ended means keeps k (length area) (3 + length (entries_bytes k so.taken)) on.history t (drop at bytes) (row ∷ []) r
+          → after ≡ row ++ drop (length row) now → Loads means keeps k h s area bytes r t after
       stopped_with r row after ended put =
           loads.Loads.read (record {
             taken = so.taken;
@@ -166,14 +146,11 @@ module _ {R Q S : Type 0} (means : Summing R Q) (rows : S → List (List R)) (re
             row_area = put ∙ (ap (λ l. row ++ drop (length row) l) so.row_area ∙ sym (rows_over_push area (map row_of so.taken) row));
           })
 
-      pub so_far_stopped : (f : LoadFault) (u : Archive Q S) (after : List R) → EntryStopped means rows refuses k t now bytes at f u after → Loads means rows refuses k h s area bytes (Err f) u after
+      pub so_far_stopped : (f : LoadFault) (u : Archive Q S) (after : List R) → EntryStopped means keeps k t now bytes at f u after → Loads means keeps k h s area bytes (Err f) u after
       so_far_stopped f u after (taking.EntryStopped.bad row far none place same put) =
           let there : f.place ≡ 3 + length (entries_bytes k so.taken) + far = let a = so.place in omega arith in
-          subst (λ x. Loads means rows refuses k h s area bytes (Err f) x after) (sym same)
+          subst (λ x. Loads means keeps k h s area bytes (Err f) x after) (sym same)
           (stopped_with (Err f) row after (loads.Ended.stopped row f.fault far (subst (λ n. NoEdit k n (drop at bytes) row f.fault far) so.long none) refl (ap (λ p. Err (record { fault = f.fault; place = p })) there)) put)
       so_far_stopped f u after (taking.EntryStopped.refused e more x fit roomy there law is same put) =
-          subst (λ x. Loads means rows refuses k h s area bytes (Err f) x after) (sym same)
+          subst (λ x. Loads means keeps k h s area bytes (Err f) x after) (sym same)
           (stopped_with (Err f) (row_of e) after (loads.Ended.refused e more x fit (subst (λ n. length (row_of e) ≤ n) so.long roomy) there (law on.history on.stands) refl (ap Err is ∙ ap (λ p. Err (record { fault = fault.Edit x; place = p })) so.place)) put)
-
-      pub so_far_answered : (r : Result ℕ LoadFault) (y f : LoadFault) (u : Archive Q S) (after : List R) → r ≡ Err y → y ≡ f → EntryStopped means rows refuses k t now bytes at f u after → Loads means rows refuses k h s area bytes r u after
-      so_far_answered r y f u after p q stop = subst (λ x. Loads means rows refuses k h s area bytes x u after) (sym (p ∙ ap Err q)) (so_far_stopped f u after stop)

@@ -1,7 +1,7 @@
 -- A journal loaded from begin on. Assumes nothing.
+use Rattle.store.specs.Keeping.{Keeping}
 use Rattle.std.proofs.Common.{ℕ, List, Result}
 use Rattle.summary.specs.Summing.{Summing}
-use Rattle.store.specs.declared.cause.Cause.{Cause}
 use Rattle.nodes.specs.declared.node.Node.{Node}
 use Rattle.archive.specs.declared.version.Version.{Version}
 use Rattle.archive.specs.declared.begin.Begun.{Begun}
@@ -13,16 +13,16 @@ use Rattle.journal.specs.declared.fault.LoadFault.{LoadFault}
 use Rattle.journal.specs.Format.{Coding}
 use Rattle.journal.specs.Loading.{LoadLaw, LoadedFrom}
 
-module _ {R Q S : Type 0} (means : Summing R Q) (rows : S → List (List R)) (refuses : S → List R → Cause → Type 0) (k : Coding R) where
+module _ {R Q S : Type 0} (means : Summing R Q) (keeps : Keeping S R) (k : Coding R) where
   pub loaded_from : (nodes begun_nodes : List (Node Q)) (versions begun_versions : List Version) (begun : Begun) (store : S) (area after : List R) (bytes : List ℕ) (r : Result ℕ LoadFault) (t : Archive Q S)
       → Begin means nodes versions begun begun_nodes begun_versions
-      → LoadLaw means rows refuses k (record { tables = record { nodes = begun_nodes; used = begun.used; versions = begun_versions; count = begun.count }; store = store }) area bytes r t after
-      → LoadedFrom means rows refuses k nodes versions store area bytes r t after
+      → LoadLaw means keeps k (record { tables = record { nodes = begun_nodes; used = begun.used; versions = begun_versions; count = begun.count }; store = store }) area bytes r t after
+      → LoadedFrom means keeps k nodes versions store area bytes r t after
   loaded_from nodes begun_nodes versions begun_versions begun store area after bytes r t begins law =
       record {
         begun = begun;
         begun_nodes = begun_nodes;
         begun_versions = begun_versions;
         begins = begins;
-        loads = law (begun_history nodes versions) (begun_stands means rows refuses nodes begun_nodes versions begun_versions begun store area begins);
+        loads = law (begun_history nodes versions) (begun_stands means keeps nodes begun_nodes versions begun_versions begun store area begins);
       }

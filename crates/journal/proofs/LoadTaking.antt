@@ -1,8 +1,8 @@
 -- An edit of a journal that was taken in, or why none was. Assumes nothing.
-use Rattle.std.proofs.Common.{◌≡◌, ℕ, ◌+◌, ◌-◌, ◌<◌, ◌≤◌, List, [], ◌++◌, length, take, drop, Ok, Err, Result, sym, refl, ap, ◌∙◌, subst, append_assoc, append-nil, add-zero, arith, length-append}
+use Rattle.store.specs.Keeping.{Keeping}
+use Rattle.std.proofs.Common.{◌≡◌, ℕ, ◌+◌, ◌<◌, ◌≤◌, List, [], ◌++◌, length, take, drop, Ok, Err, sym, refl, ap, ◌∙◌, subst, append_assoc, append-nil, add-zero, arith, length-append}
 use Rattle.std.proofs.lemmas.List.{take_at, nil_from_length}
 use Rattle.summary.specs.Summing.{Summing}
-use Rattle.store.specs.declared.cause.Cause.{Cause}
 use Rattle.archive.specs.declared.fault.EditFault.{EditFault}
 use Rattle.archive.specs.declared.table.Accepted.{Accepted}
 use Rattle.archive.specs.Calling.{Archive, EditKept, EditLaw}
@@ -13,11 +13,11 @@ use Rattle.journal.specs.declared.loading.opening.Step.{Step}
 use Rattle.journal.specs.declared.loading.opening.Step.TheVariants.{Insert, Change, Removal}
 use Rattle.journal.specs.declared.loading.opening.Opening.{Opening}
 use Rattle.journal.specs.Format.{Coding, Entry, row_of, asked_of, row_bytes, entry_bytes, Fits}
-use Rattle.journal.specs.Faults.{Opens, NoRecord, NoEdit}
+use Rattle.journal.specs.Faults.{Opens, NoRecord}
 use Rattle.journal.specs.Faults as faults
 use Rattle.journal.specs.Reads.{RowThere, RowStopped}
 use Rattle.journal.specs.Records.{entry_with, record_bytes, StepFits, RecordThere}
-use Rattle.journal.specs.Taking.{EntryTaken, EntryStopped, bad, refused, OneTaken}
+use Rattle.journal.specs.Taking.{EntryTaken, EntryStopped, bad, refused}
 
 -- a record with a row that has readings opens an insert or a change
 pub record RowOpens (front : List ℕ) (n size : ℕ) (more : List ℕ) : Type 0 where
@@ -60,15 +60,12 @@ module _ {R : Type 0} (k : Coding R) where
         bytes_are = sym (append-nil (record_bytes (Removal base place) n)) ∙ ap (λ l. record_bytes (Removal base place) n ++ row_bytes k l) (sym none);
       }
 
-module _ {R Q S : Type 0} (means : Summing R Q) (rows : S → List (List R)) (refuses : S → List R → Cause → Type 0) (k : Coding R) (s : Archive Q S) (area : List R) (bytes : List ℕ) (at : ℕ) where
-  pub record_stops : (f : JournalFault) → NoRecord (length area) (drop at bytes) f → EntryStopped means rows refuses k s area bytes at (record { fault = f; place = at }) s area
+module _ {R Q S : Type 0} (means : Summing R Q) (keeps : Keeping S R) (k : Coding R) (s : Archive Q S) (area : List R) (bytes : List ℕ) (at : ℕ) where
+  pub record_stops : (f : JournalFault) → NoRecord (length area) (drop at bytes) f → EntryStopped means keeps k s area bytes at (record { fault = f; place = at }) s area
   record_stops f n = bad [] 0 (faults.NoEdit.record_bad n refl refl) (sym (add-zero at)) refl refl
 
-  pub as_answered : (r : Result ℕ LoadFault) (y f : LoadFault) (t : Archive Q S) (after : List R) → r ≡ Err y → y ≡ f → EntryStopped means rows refuses k s area bytes at f t after → OneTaken means rows refuses k s area bytes at r t after
-  as_answered r y f t after p q stop = subst (λ x. OneTaken means rows refuses k s area bytes at x t after) (sym (p ∙ ap Err q)) stop
-
   module _ (o : Opening) (r : RecordThere bytes at (length area) o) (after : List R) where
-    pub row_stops : (f : LoadFault) → RowStopped k bytes o.next o.count area f after → EntryStopped means rows refuses k s area bytes at f s after
+    pub row_stops : (f : LoadFault) → RowStopped k bytes o.next o.count area f after → EntryStopped means keeps k s area bytes at f s after
     row_stops f stop =
         let size : ℕ = length (record_bytes o.step o.count) in
         let open_row = row_opens o.step o.count (drop at bytes) (drop o.next bytes) r.there r.fits (let h = stop.short in omega arith) in
@@ -89,11 +86,10 @@ module _ {R Q S : Type 0} (means : Summing R Q) (rows : S → List (List R)) (re
           place = refl;
         })) place refl stop.put
 
-    module _ (end : ℕ) (there : RowThere k bytes o.next o.count area end after) (given : List R) (given_is : given ≡ take (o.count - 0) after) (t : Archive Q S) where
+    module _ (end : ℕ) (there : RowThere k bytes o.next o.count area end after) (given : List R) (given_is : given ≡ take o.count after) (t : Archive Q S) where
       row_given : given ≡ there.row
       row_given =
-          let n : o.count - 0 ≡ o.count = omega arith in
-          given_is ∙ (ap (λ m. take m after) n ∙ (ap (take o.count) there.put ∙ take_at there.row (drop o.count area) o.count there.long))
+          given_is ∙ (ap (take o.count) there.put ∙ take_at there.row (drop o.count area) o.count there.long)
 
       made : EntryWith k o.step o.count there.row
       made = entry_made k o.step o.count there.row there.long r.fits
@@ -124,8 +120,8 @@ module _ {R Q S : Type 0} (means : Summing R Q) (rows : S → List (List R)) (re
       unfolding e
       fits_is = made.fit
 
-      pub entry_taken : (x : Accepted) → EditKept means rows refuses s (asked_of (entry_with o.step given)) (Ok x) t → EditLaw means rows refuses s (asked_of (entry_with o.step given)) (Ok x) t
-          → EntryTaken means rows refuses k s area bytes at end t after
+      pub entry_taken : (x : Accepted) → EditKept means keeps s (asked_of (entry_with o.step given)) (Ok x) t → EditLaw means keeps s (asked_of (entry_with o.step given)) (Ok x) t
+          → EntryTaken means keeps k s area bytes at end t after
       unfolding e
       entry_taken x kept law =
           record {
@@ -138,15 +134,15 @@ module _ {R Q S : Type 0} (means : Summing R Q) (rows : S → List (List R)) (re
             sent =
                 record {
                   answer = x;
-                  kept = subst (λ l. EditKept means rows refuses s (asked_of (entry_with o.step l)) (Ok x) t) row_given kept;
-                  law = subst (λ l. EditLaw means rows refuses s (asked_of (entry_with o.step l)) (Ok x) t) row_given law;
+                  kept = subst (λ l. EditKept means keeps s (asked_of (entry_with o.step l)) (Ok x) t) row_given kept;
+                  law = subst (λ l. EditLaw means keeps s (asked_of (entry_with o.step l)) (Ok x) t) row_given law;
                 };
             put = put_is;
           }
 
-      pub entry_refused : (x : EditFault) → EditKept means rows refuses s (asked_of (entry_with o.step given)) (Err x) t → EditLaw means rows refuses s (asked_of (entry_with o.step given)) (Err x) t
-          → EntryStopped means rows refuses k s area bytes at (record { fault = fault.Edit x; place = at }) t after
+      pub entry_refused : (x : EditFault) → EditKept means keeps s (asked_of (entry_with o.step given)) (Err x) t → EditLaw means keeps s (asked_of (entry_with o.step given)) (Err x) t
+          → EntryStopped means keeps k s area bytes at (record { fault = fault.Edit x; place = at }) t after
       unfolding e
       entry_refused x kept law =
-          refused e (drop end bytes) x fits_is room_is bytes_there (subst (λ u. EditLaw means rows refuses s (asked_of e) (Err x) u) kept (subst (λ l. EditLaw means rows refuses s (asked_of (entry_with o.step l)) (Err x) t) row_given law))
+          refused e (drop end bytes) x fits_is room_is bytes_there (subst (λ u. EditLaw means keeps s (asked_of e) (Err x) u) kept (subst (λ l. EditLaw means keeps s (asked_of (entry_with o.step l)) (Err x) t) row_given law))
           refl kept put_is

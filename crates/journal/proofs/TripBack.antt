@@ -1,9 +1,9 @@
 -- The journal of an archive, loaded into one that has just begun, gives the same versions. Assumes nothing.
+use Rattle.store.specs.Keeping.{Keeping}
 use Rattle.std.proofs.Common.{◌≡◌, ℕ, suc, ◌+◌, List, [], ◌∷◌, ◌++◌, length, Some, Ok, Err, Result, sym, refl, ap, ◌∙◌, subst, arith}
 use Rattle.std.specs.List.{AllByRecursion}
 use Rattle.std.proofs.lemmas.List.{append-nil}
 use Rattle.summary.specs.Summing.{Summing}
-use Rattle.store.specs.declared.cause.Cause.{Cause}
 use Rattle.history.specs.Edits.{Edit}
 use Rattle.archive.specs.declared.fault.EditFault.{EditFault}
 use Rattle.archive.specs.Calling.{Archive, Standing}
@@ -21,10 +21,10 @@ use Rattle.journal.proofs.TripLists.{entries_length, lists_shown}
 use Rattle.journal.proofs.TripHistory.{taken_on}
 
 module _ {R : Type 0} (k : Coding R) (measured : (x : R) → length (k.bytes x) ≡ k.wide) (told : (x y : R) → k.bytes x ≡ k.bytes y → x ≡ y) where
-  module _ {Q S : Type 0} (means : Summing R Q) (rows : S → List (List R)) (refuses : S → List R → Cause → Type 0) (s t : Archive Q S) (area area_after : List R) (r : Result ℕ LoadFault)
+  module _ {Q S : Type 0} (means : Summing R Q) (keeps : Keeping S R) (s t : Archive Q S) (area area_after : List R) (r : Result ℕ LoadFault)
       (accepting : (f : EditFault) (place : ℕ) → r ≡ Err (record { fault = fault.Edit f; place = place }) → ⊥) (roomy : (place : ℕ) → r ≡ Err (record { fault = fault.Area; place = place }) → ⊥) where
     -- with entries still to come loading cannot have ended, and with none it ended well
-    ended_on : (more : List (Entry R)) (room place : ℕ) (h : History R) (rest : List ℕ) (passed : List (List R)) → AllByRecursion Fits more → rest ≡ entries_bytes k more → Ended means rows refuses k room place h t rest passed r
+    ended_on : (more : List (Entry R)) (room place : ℕ) (h : History R) (rest : List ℕ) (passed : List (List R)) → AllByRecursion Fits more → rest ≡ entries_bytes k more → Ended means keeps k room place h t rest passed r
         → (more ≡ []) × (r ≡ Ok t.tables.count)
     ended_on [] room place h rest passed fit is (whole e p a) = (refl, a)
     ended_on [] room place h rest passed fit is (stopped row f far bad p a) = absurd (edit_none k room rest row f far is bad)
@@ -35,26 +35,26 @@ module _ {R : Type 0} (k : Coding R) (measured : (x : R) → length (k.bytes x) 
         absurd (roomy (place + far) (a ∙ ap {B = Result ℕ LoadFault} (λ (y : JournalFault). Err (record { fault = y; place = place + far })) only))
     ended_on (x ∷ xs) room place h rest passed fit is (refused y more f fits long e refusal p a) = absurd (accepting f place a)
 
-    all_taken : (es : List (Edit R)) → AllByRecursion Fits (entries_of es) → TookIn means rows refuses k (Some []) s area (journal_of k (Some es)) r t area_after
-        → (n : ℕ) × (r ≡ Ok n) × SameVersions means rows refuses k es n t
+    all_taken : (es : List (Edit R)) → AllByRecursion Fits (entries_of es) → TookIn means keeps k (Some []) s area (journal_of k (Some es)) r t area_after
+        → (n : ℕ) × (r ≡ Ok n) × SameVersions means keeps k es n t
     all_taken es fit got =
         let cut = (cut_same (head_bytes k) (head_bytes k) (entries_bytes k (entries_of es)) (entries_bytes k got.taken ++ got.rest) refl got.split).1 in
         let b = begun_by k measured told got.taken (entries_of es) got.rest fit got.fit cut in
         let end = ended_on b.more _ _ got.history got.rest got.passed b.fit b.left got.ended in
-        let u = taken_on means rows refuses got.taken [] s got.history t got.took in
+        let u = taken_on means keeps got.taken [] s got.history t got.took in
         let all : entries_of es ≡ got.taken = b.split ∙ (ap (λ l. got.taken ++ l) end.0 ∙ append-nil got.taken) in
         let same : entries_of u.0 ≡ entries_of es = u.2 ∙ sym all in
-        let stands : Standing means rows refuses (Some u.0) t = subst (λ h. Standing means rows refuses h t) u.1 got.stands in
+        let stands : Standing means keeps (Some u.0) t = subst (λ h. Standing means keeps h t) u.1 got.stands in
         let counted : length u.0 ≡ length es = sym (entries_length u.0) ∙ (ap length same ∙ entries_length es) in
         (t.tables.count, end.1, record { edits = u.0; stands = stands; as_many = stands.stands.tables.counted ∙ ap suc counted; counted = counted; same = lists_shown u.0 es same })
 
-    loaded_back : (es : List (Edit R)) → AllByRecursion Fits (entries_of es) → Loads means rows refuses k (Some []) s area (journal_of k (Some es)) r t area_after
-        → (n : ℕ) × (r ≡ Ok n) × SameVersions means rows refuses k es n t
+    loaded_back : (es : List (Edit R)) → AllByRecursion Fits (entries_of es) → Loads means keeps k (Some []) s area (journal_of k (Some es)) r t area_after
+        → (n : ℕ) × (r ≡ Ok n) × SameVersions means keeps k es n t
     loaded_back es fit (short l a e p) = absurd (omega arith)
     loaded_back es fit (no_head l other a e p) = absurd (other refl)
     loaded_back es fit (read got) = all_taken es fit got
 
-  pub loads_back : {P T Q S : Type 0} (theirs : Summing R P) (their_rows : T → List (List R)) (their_refuses : T → List R → Cause → Type 0) (means : Summing R Q) (rows : S → List (List R)) (refuses : S → List R → Cause → Type 0)
-      → LoadsBack k theirs their_rows their_refuses means rows refuses
-  loads_back theirs their_rows their_refuses means rows refuses from es stood s t area area_after r st loads accepting roomy =
-      loaded_back means rows refuses s t area area_after r accepting roomy es (entries_fit theirs es from.tables stood.stands.tables stood.placed) loads
+  pub loads_back : {P T Q S : Type 0} (theirs : Summing R P) (theirs_keeps : Keeping T R) (means : Summing R Q) (keeps : Keeping S R)
+      → LoadsBack k theirs theirs_keeps means keeps
+  loads_back theirs theirs_keeps means keeps from es stood s t area area_after r st loads accepting roomy =
+      loaded_back means keeps s t area area_after r accepting roomy es (entries_fit theirs es from.tables stood.stands.tables stood.placed) loads

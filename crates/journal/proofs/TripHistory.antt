@@ -1,8 +1,8 @@
 -- What stands after entries that were taken: a history whose entries are those. Assumes nothing.
+use Rattle.store.specs.Keeping.{Keeping}
 use Rattle.std.proofs.Common.{◌≡◌, ℕ, List, [], ◌∷◌, ◌++◌, Some, Ok, Err, Result, sym, refl, ap, ◌∙◌, subst, arith}
 use Rattle.std.proofs.lemmas.List.{append-nil, append_assoc}
 use Rattle.summary.specs.Summing.{Summing}
-use Rattle.store.specs.declared.cause.Cause.{Cause}
 use Rattle.history.specs.Edits.{Edit}
 use Rattle.archive.specs.Calling.{Archive, Standing, edit_asked}
 use Rattle.archive.proofs.Later.{same_some}
@@ -21,16 +21,16 @@ module _ {R : Type 0} where
   entry_asked es (change base place row) n = refl
   entry_asked es (removal base place) n = refl
 
-module _ {R Q S : Type 0} (means : Summing R Q) (rows : S → List (List R)) (refuses : S → List R → Cause → Type 0) where
+module _ {R Q S : Type 0} (means : Summing R Q) (keeps : Keeping S R) where
   -- after entries that were taken: a history, with these entries behind those before
-  pub taken_on : (xs : List (Entry R)) (es : List (Edit R)) (s : Archive Q S) (k : History R) (t : Archive Q S) → TookAll means rows refuses (Some es) s xs k t
+  pub taken_on : (xs : List (Entry R)) (es : List (Edit R)) (s : Archive Q S) (k : History R) (t : Archive Q S) → TookAll means keeps (Some es) s xs k t
       → (fs : List (Edit R)) × (k ≡ Some fs) × (entries_of fs ≡ entries_of es ++ xs)
   taken_on [] es s k t took = (es, took.0, sym (append-nil (entries_of es)))
   taken_on (x ∷ xs) es s k t took =
       let step = took.2 in
       let before = step.before in
       let new = edit_asked before (asked_of x) step.accepted.number in
-      let on : TookAll means rows refuses (Some (new ∷ before)) took.1 xs k t = subst (λ h. TookAll means rows refuses h took.1 xs k t) step.after took.3 in
+      let on : TookAll means keeps (Some (new ∷ before)) took.1 xs k t = subst (λ h. TookAll means keeps h took.1 xs k t) step.after took.3 in
       let r = taken_on xs (new ∷ before) took.1 k t on in
       let was : before ≡ es = sym (same_some es before step.was) in (
         r.0,
@@ -41,21 +41,21 @@ module _ {R Q S : Type 0} (means : Summing R Q) (rows : S → List (List R)) (re
 
   module _ (coding : Coding R) where
     -- loading that ended well took all
-    pub ended_well : (room place : ℕ) (h : History R) (s : Archive Q S) (bytes : List ℕ) (passed : List (List R)) (n : ℕ) → Ended means rows refuses coding room place h s bytes passed (Ok n) → bytes ≡ []
+    pub ended_well : (room place : ℕ) (h : History R) (s : Archive Q S) (bytes : List ℕ) (passed : List (List R)) (n : ℕ) → Ended means keeps coding room place h s bytes passed (Ok n) → bytes ≡ []
     ended_well room place h s bytes passed n (whole e p r) = e
     ended_well room place h s bytes passed n (stopped row f far bad p r) = absurd (ok_not_err n _ r)
     ended_well room place h s bytes passed n (refused x more f fit fits e told p r) = absurd (ok_not_err n _ r)
 
-    pub came_back : (s t : Archive Q S) (area area_after : List R) (bytes : List ℕ) (n : ℕ) → TookIn means rows refuses coding (Some []) s area bytes (Ok n) t area_after
-        → (es : List (Edit R)) × Standing means rows refuses (Some es) t × (journal_of coding (Some es) ≡ bytes)
+    pub came_back : (s t : Archive Q S) (area area_after : List R) (bytes : List ℕ) (n : ℕ) → TookIn means keeps coding (Some []) s area bytes (Ok n) t area_after
+        → (es : List (Edit R)) × Standing means keeps (Some es) t × (journal_of coding (Some es) ≡ bytes)
     came_back s t area area_after bytes n got =
         let r = taken_on got.taken [] s got.history t got.took in
         let end = ended_well _ _ got.history t got.rest got.passed n got.ended in
         let all : bytes ≡ journal_bytes coding got.taken =
         got.split ∙ (ap (λ l. head_bytes coding ++ (entries_bytes coding got.taken ++ l)) end ∙ ap (λ l. head_bytes coding ++ l) (append-nil (entries_bytes coding got.taken))) in
-        (r.0, subst (λ h. Standing means rows refuses h t) r.1 got.stands, ap (journal_bytes coding) r.2 ∙ sym all)
+        (r.0, subst (λ h. Standing means keeps h t) r.1 got.stands, ap (journal_bytes coding) r.2 ∙ sym all)
 
-    pub comes_back : ComesBack means rows refuses coding
+    pub comes_back : ComesBack means keeps coding
     comes_back s t area area_after bytes n st (short l r e a) = absurd (ok_not_err n _ r)
     comes_back s t area area_after bytes n st (no_head l other r e a) = absurd (ok_not_err n _ r)
     comes_back s t area area_after bytes n st (read got) = came_back s t area area_after bytes n got

@@ -1,9 +1,9 @@
 -- What is written of tables that stand is the journal of their history. Assumes nothing.
+use Rattle.store.specs.Keeping.{Keeping}
 use Rattle.std.proofs.Common.{◌≡◌, ℕ, zero, suc, ◌+◌, ◌-◌, ◌<◌, ◌≤◌, ◌⊎◌, List, [], ◌∷◌, ◌++◌, length, take, drop, Some, None, unwrap_or, sym, refl, ap, ◌∙◌, subst, ap₂, inl, inr, append_assoc, append-nil, mod-eq_of_lt, arith}
 use Rattle.std.specs.List.{slice_get, flat_map, AllByRecursion}
 use Rattle.std.proofs.lemmas.Bool.{cases_lt}
 use Rattle.summary.specs.Summing.{Summing}
-use Rattle.store.specs.declared.cause.Cause.{Cause}
 use Rattle.laid.specs.Laid.{root}
 use Rattle.history.specs.Edits.{Item, Edit, insert, change, removal, first_changed, list_of}
 use Rattle.history.specs.Replay.{InPlace, next_list}
@@ -112,24 +112,24 @@ module _ {R : Type 0} (k : Coding R) (small : k.code < 252) where
         ∙ ap₂ (λ a b. a ++ b) before last.2
         ∙ sym (entries_one (entries_of es) (entry_of e))
 
-module _ {R Q S : Type 0} (means : Summing R Q) (rows : S → List (List R)) (refuses : S → List R → Cause → Type 0) (k : Coding R) (small : k.code < 252) where
-  stands_told : (es : List (Edit R)) (s : Tables Q) (store : S) → StandsInPlace means rows refuses es s store → Told k small (rows store) s.versions es
+module _ {R Q S : Type 0} (means : Summing R Q) (keeps : Keeping S R) (k : Coding R) (small : k.code < 252) where
+  stands_told : (es : List (Edit R)) (s : Tables Q) (store : S) → StandsInPlace means keeps es s store → Told k small (keeps.rows store) s.versions es
   stands_told es s store st v e q =
       let tables = st.stands.tables in
       let low = edit_past es v e q in
       let many = tables.as_many in
       let t = nth_some tables.trees v (omega arith) in
-      let there = row_done (rows store) (edits_before es v) e (st.placed v e q) (subst (RowsStand (rows store)) (list_given es v e q) (st.stands.stored v)) in (
+      let there = row_done (keeps.rows store) (edits_before es v) e (st.placed v e q) (subst (RowsStand (keeps.rows store)) (list_given es v e q) (st.stands.stored v)) in (
         record_by (edit_of es v) (edits_before es v) (list_of es v) (root t.0),
         (tables.each v t.0 t.1).recorded,
-        ap (λ o. version_bytes k (rows store) (record_by o (edits_before es v) (list_of es v) (root t.0))) q ∙ version_same k small (rows store) (edits_before es v) e (list_of es v) (root t.0) there,
+        ap (λ o. version_bytes k (keeps.rows store) (record_by o (edits_before es v) (list_of es v) (root t.0))) q ∙ version_same k small (keeps.rows store) (edits_before es v) e (list_of es v) (root t.0) there,
       )
 
   -- what is written of an archive that stands is its journal
-  pub journal_written : (h : History R) (s : Archive Q S) → Standing means rows refuses h s → tables_bytes k (rows s.store) s.tables.versions s.tables.count ≡ journal_of k h
-  journal_written None s st = ap (λ n. head_bytes k ++ flat_map (version_bytes k (rows s.store)) (take (n - 1) (drop 1 s.tables.versions))) st
+  pub journal_written : (h : History R) (s : Archive Q S) → Standing means keeps h s → tables_bytes k (keeps.rows s.store) s.tables.versions s.tables.count ≡ journal_of k h
+  journal_written None s st = ap (λ n. head_bytes k ++ flat_map (version_bytes k (keeps.rows s.store)) (take (n - 1) (drop 1 s.tables.versions))) st
   journal_written (Some es) s st =
       let n = st.stands.tables.counted in
       let less : s.tables.count - 1 ≡ length es = omega arith in
-      ap (λ m. head_bytes k ++ flat_map (version_bytes k (rows s.store)) (take m (drop 1 s.tables.versions))) less
-      ∙ ap (λ l. head_bytes k ++ l) (told_all k small (rows s.store) s.tables.versions es (stands_told es s.tables s.store st))
+      ap (λ m. head_bytes k ++ flat_map (version_bytes k (keeps.rows s.store)) (take m (drop 1 s.tables.versions))) less
+      ∙ ap (λ l. head_bytes k ++ l) (told_all k small (keeps.rows s.store) s.tables.versions es (stands_told es s.tables s.store st))

@@ -1,8 +1,8 @@
 -- What loading a journal answers and leaves. Assumes nothing.
+use Rattle.store.specs.Keeping.{Keeping}
 use Rattle.std.specs.Prelude.{◌≡◌, ℕ, ◌+◌, ◌<◌, ◌≤◌, List, [], ◌∷◌, ◌++◌, map, length, take, drop, Some, Ok, Err, Result, ◌≢◌}
 use Rattle.std.specs.List.{AllByRecursion}
 use Rattle.summary.specs.Summing.{Summing}
-use Rattle.store.specs.declared.cause.Cause.{Cause}
 use Rattle.history.specs.Edits.{Edit}
 use Rattle.nodes.specs.declared.node.Node.{Node}
 use Rattle.archive.specs.declared.version.Version.{Version}
@@ -23,14 +23,14 @@ abbrev pub rows_over : {R : Type 0} → List R → List (List R) → List R
 rows_over area [] = area
 rows_over area (row ∷ rows) = rows_over (row ++ drop (length row) area) rows
 
-module _ {R Q S : Type 0} (means : Summing R Q) (rows : S → List (List R)) (refuses : S → List R → Cause → Type 0) where
+module _ {R Q S : Type 0} (means : Summing R Q) (keeps : Keeping S R) where
   -- an entry that the archive accepted
   pub record Took (h : History R) (s : Archive Q S) (e : Entry R) (k : History R) (t : Archive Q S) : Type 0 where
     pub before : List (Edit R)
     pub was : h ≡ Some before
     pub answer : Accepted
-    pub accepted : EditAccepted means rows refuses before s (asked_of e) answer t
-    pub kept : EditKept means rows refuses s (asked_of e) (Ok answer) t
+    pub accepted : EditAccepted means keeps before s (asked_of e) answer t
+    pub kept : EditKept means keeps s (asked_of e) (Ok answer) t
     pub after : k ≡ Some (edit_asked before (asked_of e) accepted.number ∷ before)
 
   -- entries that the archive accepted, one after another
@@ -44,7 +44,7 @@ module _ {R Q S : Type 0} (means : Summing R Q) (rows : S → List (List R)) (re
     pub data Ended (room place : ℕ) (h : History R) (s : Archive Q S) (bytes : List ℕ) (passed : List (List R)) (r : Result ℕ LoadFault) : Type 0 where
       whole : bytes ≡ [] → passed ≡ [] → r ≡ Ok s.tables.count → Ended room place h s bytes passed r
       stopped : (row : List R) (f : JournalFault) (far : ℕ) → NoEdit coding room bytes row f far → passed ≡ row ∷ [] → r ≡ Err (record { fault = f; place = place + far }) → Ended room place h s bytes passed r
-      refused : (e : Entry R) (more : List ℕ) (f : EditFault) → Fits e → length (row_of e) ≤ room → bytes ≡ entry_bytes coding e ++ more → EditTold means rows refuses h s (asked_of e) (Err f) s
+      refused : (e : Entry R) (more : List ℕ) (f : EditFault) → Fits e → length (row_of e) ≤ room → bytes ≡ entry_bytes coding e ++ more → EditTold means keeps h s (asked_of e) (Err f) s
           → passed ≡ row_of e ∷ [] → r ≡ Err (record { fault = fault.Edit f; place = place }) → Ended room place h s bytes passed r
 
     -- Bytes that begin with the head, loaded into an archive that stands for a history: the entries up to the first fault were taken, and the row area has
@@ -57,7 +57,7 @@ module _ {R Q S : Type 0} (means : Summing R Q) (rows : S → List (List R)) (re
       pub split : bytes ≡ head_bytes coding ++ (entries_bytes coding taken ++ rest)
       pub history : History R
       pub took : TookAll h s taken history t
-      pub stands : Standing means rows refuses history t
+      pub stands : Standing means keeps history t
       pub passed : List (List R)
       pub ended : Ended (length area) (3 + length (entries_bytes coding taken)) history t rest passed r
       pub row_area : area_after ≡ rows_over area (map row_of taken ++ passed)
@@ -70,7 +70,7 @@ module _ {R Q S : Type 0} (means : Summing R Q) (rows : S → List (List R)) (re
 
     -- what loading into an archive means, whatever history it stands for
     abbrev pub LoadLaw : Archive Q S → List R → List ℕ → Result ℕ LoadFault → Archive Q S → List R → Type 0
-    LoadLaw s area bytes r t area_after = (h : History R) → Standing means rows refuses h s → Loads h s area bytes r t area_after
+    LoadLaw s area bytes r t area_after = (h : History R) → Standing means keeps h s → Loads h s area bytes r t area_after
 
     -- A journal loaded from begin on, into the tables, the store and the row area that were given.
     pub record LoadedFrom (nodes : List (Node Q)) (versions : List Version) (store : S) (area : List R) (bytes : List ℕ) (r : Result ℕ LoadFault) (t : Archive Q S) (area_after : List R) : Type 0 where

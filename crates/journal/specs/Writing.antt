@@ -1,7 +1,7 @@
 -- What writing an archive's journal answers and leaves, and the two round trips. Assumes nothing.
+use Rattle.store.specs.Keeping.{Keeping}
 use Rattle.std.specs.Prelude.{◌≡◌, ℕ, suc, ◌≤◌, List, [], ◌++◌, map, length, drop, Some, None, Ok, Err, MatchBool, Result, ◌≢◌, nat_le}
 use Rattle.summary.specs.Summing.{Summing}
-use Rattle.store.specs.declared.cause.Cause.{Cause}
 use Rattle.history.specs.Edits.{Item, Edit, list_of}
 use Rattle.archive.specs.declared.fault.EditFault.{EditFault}
 use Rattle.archive.specs.Calling.{Archive, Standing}
@@ -35,29 +35,29 @@ pub record Shown (R : Type 0) : Type 0 where
 abbrev pub shown : {R : Type 0} → List (Item R) → List (Shown R)
 shown xs = map (λ x. record { level = x.level; row = x.content.row }) xs
 
-module _ {R Q S : Type 0} (means : Summing R Q) (rows : S → List (List R)) (refuses : S → List R → Cause → Type 0) (k : Coding R) where
+module _ {R Q S : Type 0} (means : Summing R Q) (keeps : Keeping S R) (k : Coding R) where
   abbrev pub WriteLaw : Archive Q S → List ℕ → Result ℕ JournalFault → List ℕ → Type 0
-  WriteLaw s out r after = (h : History R) → Standing means rows refuses h s → Writes (journal_of k h) out r after
+  WriteLaw s out r after = (h : History R) → Standing means keeps h s → Writes (journal_of k h) out r after
 
   -- A journal that loads whole is the journal of the archive that it gives: written, it comes back byte for byte.
   abbrev pub ComesBack : Type 0
   ComesBack =
-      (s t : Archive Q S) (area area_after : List R) (bytes : List ℕ) (n : ℕ) → Standing means rows refuses (Some []) s → Loads means rows refuses k (Some []) s area bytes (Ok n) t area_after →
-      (es : List (Edit R)) × Standing means rows refuses (Some es) t × (journal_of k (Some es) ≡ bytes)
+      (s t : Archive Q S) (area area_after : List R) (bytes : List ℕ) (n : ℕ) → Standing means keeps (Some []) s → Loads means keeps k (Some []) s area bytes (Ok n) t area_after →
+      (es : List (Edit R)) × Standing means keeps (Some es) t × (journal_of k (Some es) ≡ bytes)
 
   -- The journal of any archive, loaded into one that has just begun, gives the same versions, where no edit is refused and the row area is long enough:
   -- as many, and each with the same rows and levels.
   pub record SameVersions (es : List (Edit R)) (n : ℕ) (t : Archive Q S) : Type 0 where
     pub edits : List (Edit R)
-    pub stands : Standing means rows refuses (Some edits) t
+    pub stands : Standing means keeps (Some edits) t
     pub as_many : n ≡ suc (length es)
     pub counted : length edits ≡ length es
     pub same : (v : ℕ) → shown (list_of edits v) ≡ shown (list_of es v)
 
 -- the same, between any two archives of one kind of reading
-abbrev pub LoadsBack : {R P T Q S : Type 0} → Coding R → Summing R P → (T → List (List R)) → (T → List R → Cause → Type 0) → Summing R Q → (S → List (List R)) → (S → List R → Cause → Type 0) → Type 0
-LoadsBack {R} {P} {T} {Q} {S} k theirs their_rows their_refuses means rows refuses =
-    (from : Archive P T) (es : List (Edit R)) → Standing theirs their_rows their_refuses (Some es) from →
-    (s t : Archive Q S) (area area_after : List R) (r : Result ℕ LoadFault) → Standing means rows refuses (Some []) s → Loads means rows refuses k (Some []) s area (journal_of k (Some es)) r t area_after →
+abbrev pub LoadsBack : {R P T Q S : Type 0} → Coding R → Summing R P → Keeping T R → Summing R Q → Keeping S R → Type 0
+LoadsBack {R} {P} {T} {Q} {S} k theirs theirs_keeps means keeps =
+    (from : Archive P T) (es : List (Edit R)) → Standing theirs theirs_keeps (Some es) from →
+    (s t : Archive Q S) (area area_after : List R) (r : Result ℕ LoadFault) → Standing means keeps (Some []) s → Loads means keeps k (Some []) s area (journal_of k (Some es)) r t area_after →
     ((f : EditFault) (place : ℕ) → r ≢ Err (record { fault = fault.Edit f; place = place })) → ((place : ℕ) → r ≢ Err (record { fault = fault.Area; place = place })) →
-    (n : ℕ) × (r ≡ Ok n) × SameVersions means rows refuses k es n t
+    (n : ℕ) × (r ≡ Ok n) × SameVersions means keeps k es n t

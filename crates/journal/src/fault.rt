@@ -5,7 +5,7 @@ ghost use Rattle.journal.specs.declared.fault.JournalFault.TheVariants.{Edit};
 use archive::EditFault;
 
 // Why loading stopped, or writing was refused.
-#[derive(Clone, Copy)]
+#[derive(Clone, Copy, PartialEq, Eq, Debug)]
 pub enum JournalFault {
     // The row area, or the output, is too short.
     Area,
@@ -24,7 +24,7 @@ pub enum JournalFault {
 }
 
 // A fault, and the byte place of the record that caused it.
-#[derive(Clone, Copy)]
+#[derive(Clone, Copy, PartialEq, Eq, Debug)]
 pub struct LoadFault {
     pub fault: JournalFault,
     pub place: usize,

@@ -1,6 +1,7 @@
 // Loading a journal. It takes as many steps as the journal has bytes, and the steps of the edits.
 ghost use Rattle.std.specs.Prelude.{◌≡◌};
 ghost use Rattle.archive.specs.Calling.{archive_of};
+ghost use Rattle.journal.specs.Format.{coding};
 ghost use Rattle.journal.specs.Loading.{LoadedFrom};
 
 use archive::Version;
@@ -20,6 +21,7 @@ pub use loaded::Loaded;
 // Begins an archive in the caller's tables, and takes in the edits of a journal, one after another, up to its end or to the first fault, with the byte
 // place of the record that caused it. The readings of each edit go to the start of the row area as they pass. Where loading stops, the edits before
 // stay.
+// Thin over a function with the same promise: that has a proof written by hand, and a fault here is then refused for the fact that fails.
 pub fn load<'a, S: BlockStore, Q: Summary<Reading = S::Reading> + Copy>(
     bytes: &[u8],
     nodes: &'a mut [Node<Q>],
@@ -27,7 +29,7 @@ pub fn load<'a, S: BlockStore, Q: Summary<Reading = S::Reading> + Copy>(
     store: &mut S,
     area: &mut [S::Reading],
 ) -> Loaded<'a, Q>
-    ensures loaded { LoadedFrom Q.Summary.means S.BlockStore.rows S.BlockStore.refuses (record { code = S.Reading.Reading.coded; wide = S.Reading.Reading.wide; bytes = S.Reading.Reading.bytes }) nodes.old versions.old store.old area.old bytes.now result.answer (archive_of result.table versions.new store.new) area.new }
+    ensures loaded { LoadedFrom Q.Summary.means S.BlockStore (coding S.Reading.Reading.own) nodes.old versions.old store.old area.old bytes.now result.answer (archive_of result.table versions.new store.new) area.new }
     ensures lender { result.table.nodes.ghost_name ≡ nodes.entry.ghost_name }
 {
     beginning::begin_and_take_in(bytes, nodes, versions, store, area)

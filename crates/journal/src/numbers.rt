@@ -8,6 +8,7 @@ impl JournalFault {
     pub fn number(&self) -> u32
         ensures { result ≡ fault_number self.now }
     {
+        // Written out, since an enum with a value in a variant has no numbers of its own.
         match self {
             JournalFault::Area => 9,
             JournalFault::Ends => 10,
@@ -19,7 +20,7 @@ impl JournalFault {
         }
     }
 
-    // The number of the edit's refusal inside it, 0 where there is none.
+    // The number of the edit's refusal inside it, 0 where there is none; no option here and below, since by the project's rule a report prints 0.
     pub fn refusal(&self) -> u32
         ensures { result ≡ inner_refusal self.now }
     {

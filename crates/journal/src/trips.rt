@@ -1,4 +1,5 @@
 // The two round trips of journals, as promises of functions that only carry them.
+ghost use Rattle.journal.specs.Format.{coding};
 ghost use Rattle.journal.specs.Writing.{ComesBack, LoadsBack};
 
 use store::BlockStore;
@@ -7,7 +8,7 @@ use summary::Summary;
 // For every store and lawful summary: a journal that loads whole is the journal of the archive that it gives, so that, written, it comes back byte
 // for byte.
 pub fn comes_back<S: BlockStore, Q: Summary<Reading = S::Reading>>() -> u8
-    ensures { ComesBack Q.Summary.means S.BlockStore.rows S.BlockStore.refuses (record { code = S.Reading.Reading.coded; wide = S.Reading.Reading.wide; bytes = S.Reading.Reading.bytes }) }
+    ensures { ComesBack Q.Summary.means S.BlockStore (coding S.Reading.Reading.own) }
 {
     0
 }
@@ -20,7 +21,7 @@ pub fn loads_back<
     S: BlockStore<Reading = T::Reading>,
     Q: Summary<Reading = T::Reading>,
 >() -> u8
-    ensures { LoadsBack (record { code = T.Reading.Reading.coded; wide = T.Reading.Reading.wide; bytes = T.Reading.Reading.bytes }) P.Summary.means T.BlockStore.rows T.BlockStore.refuses Q.Summary.means S.BlockStore.rows S.BlockStore.refuses }
+    ensures { LoadsBack (coding T.Reading.Reading.own) P.Summary.means T.BlockStore Q.Summary.means S.BlockStore }
 {
     0
 }

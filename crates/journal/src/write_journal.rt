@@ -2,9 +2,11 @@
 ghost use Rattle.std.specs.Prelude.{◌≡◌, ◌<◌};
 ghost use Rattle.archive.specs.Calling.{archive_of};
 ghost use Rattle.journal.specs.Writing.{Writes, WriteLeft, WriteLaw};
-ghost use Rattle.journal.specs.Written.{coding, above_first, tables_bytes};
+ghost use Rattle.journal.specs.Format.{coding};
+ghost use Rattle.journal.specs.Written.{above_first, tables_bytes};
 
 use crate::fault::JournalFault;
+use crate::read::head;
 use crate::write_bytes::{put, write_versions};
 use crate::write_size::journal_size;
 use archive::{NodeTable, Version};
@@ -17,10 +19,7 @@ fn above_first(versions: &[Version], count: u32) -> &[Version]
     ensures { result.now ≡ above_first versions.now count }
 {
     let end = versions.len().min(count as usize);
-    if end < 2 {
-        return &versions[0..0];
-    }
-    &versions[1..end]
+    versions.get(1..end).unwrap_or(&[])
 }
 
 // Writes what the tables hold, whatever that is, to the output's start; an output that is too short is refused, and stays.
@@ -30,14 +29,14 @@ fn write_tables<S: BlockStore>(
     store: &S,
     out: &mut [u8],
 ) -> Result<usize, JournalFault>
-    ensures { Writes (tables_bytes (coding S.Reading.Reading.coded S.Reading.Reading.wide S.Reading.Reading.bytes) (S.BlockStore.rows store.now) versions.now count) out.old result out.new }
+    ensures { Writes (tables_bytes (coding S.Reading.Reading.own) (S.BlockStore.rows store.now) versions.now count) out.old result out.new }
 {
     let records = above_first(versions, count);
     let total = journal_size(store, records);
     if out.len() < total {
         return Err(JournalFault::Area);
     }
-    put(out, 0, &[1, 1, S::Reading::kind_code()]);
+    put(out, 0, &head::<S::Reading>());
     write_versions(store, records, out, 3);
     Ok(total)
 }
@@ -49,13 +48,14 @@ fn write_archive<S: BlockStore, Q: Summary<Reading = S::Reading> + Copy>(
     out: &mut [u8],
 ) -> Result<usize, JournalFault>
     ensures left { WriteLeft out.old result out.new }
-    ensures law { S.Reading.Reading.coded < 252 → WriteLaw Q.Summary.means S.BlockStore.rows S.BlockStore.refuses (coding S.Reading.Reading.coded S.Reading.Reading.wide S.Reading.Reading.bytes) (archive_of table.now versions.now store.now) out.old result out.new }
+    ensures law { S.Reading.Reading.CODE < 252 → WriteLaw Q.Summary.means S.BlockStore (coding S.Reading.Reading.own) (archive_of table.now versions.now store.now) out.old result out.new }
 {
     write_tables(versions, table.count(), store, out)
 }
 
 // Writes the journal of an archive to the output's start, and answers how many bytes it has; the rest of the output stays. An output that is too short
 // is refused, and stays. The kind's code is to be below 252, so that the kind byte of a reading's record is one.
+// Thin over a function with the same promise: that has a proof written by hand, and a fault here is then refused for the fact that fails.
 pub fn write<S: BlockStore, Q: Summary<Reading = S::Reading> + Copy>(
     table: &NodeTable<'_, Q>,
     versions: &[Version],
@@ -63,7 +63,7 @@ pub fn write<S: BlockStore, Q: Summary<Reading = S::Reading> + Copy>(
     out: &mut [u8],
 ) -> Result<usize, JournalFault>
     ensures left { WriteLeft out.old result out.new }
-    ensures law { S.Reading.Reading.coded < 252 → WriteLaw Q.Summary.means S.BlockStore.rows S.BlockStore.refuses (coding S.Reading.Reading.coded S.Reading.Reading.wide S.Reading.Reading.bytes) (archive_of table.now versions.now store.now) out.old result out.new }
+    ensures law { S.Reading.Reading.CODE < 252 → WriteLaw Q.Summary.means S.BlockStore (coding S.Reading.Reading.own) (archive_of table.now versions.now store.now) out.old result out.new }
 {
     write_archive(table, versions, store, out)
 }

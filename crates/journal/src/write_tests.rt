@@ -1,10 +1,10 @@
 // A small archive's journal, byte for byte.
-use crate::write;
-use archive::{Kind, NodeTable, Version};
-use nodes::{Node, Shape};
+use crate::tests::{free_node, free_record};
+use crate::{JournalFault, write};
+use archive::NodeTable;
 use reading::Count;
 use store::RowStore;
-use summary::{Summary, Tally};
+use summary::Tally;
 
 // An insert of two readings at level 3, an append, a change and a removal.
 const SMALL: [u8; 43] = [
@@ -15,36 +15,9 @@ const SMALL: [u8; 43] = [
     4, 0, 2, 0, 1, // version 4
 ];
 
-fn free_node() -> Node<Tally<Count>> {
-    Node {
-        shape: Shape::Fork {
-            level: 99,
-            below: 77,
-            after: 88,
-        },
-        readings: 66,
-        blocks: 55,
-        summary: Tally::nothing(),
-    }
-}
-
-fn free_record() -> Version {
-    Version {
-        parent: 91,
-        edit: Kind::Begun,
-        place: 92,
-        level: 93,
-        block: 94,
-        root: 95,
-        blocks: 96,
-        readings: 97,
-        written: 98,
-    }
-}
-
 #[test]
 fn small_journal(rt: HostRuntime) {
-    let mut nodes = [free_node(); 40];
+    let mut nodes = [free_node::<Tally<Count>>(); 40];
     let mut versions = [free_record(); 8];
     let mut area = [Count::from_bytes(0, 0); 16];
     let mut store = RowStore::new(&mut area);
@@ -60,21 +33,13 @@ fn small_journal(rt: HostRuntime) {
     assert!(rt; table.change(&mut versions, &mut store, 2, 0, &one).is_ok());
     assert!(rt; table.remove(&mut versions, &store, 2, 1).is_ok());
     let mut out = [9u8; 45];
-    assert!(rt; matches_count(write(&table, &versions, &store, &mut out), 43));
-    for (x, y) in out.iter().zip(SMALL.iter()) {
-        assert!(rt; *x == *y);
-    }
+    assert_eq!(rt; write(&table, &versions, &store, &mut out), Ok(43));
+    assert!(rt; out.starts_with(&SMALL));
     assert!(rt; out[43] == 9 && out[44] == 9);
     let mut short = [9u8; 42];
-    assert!(rt; write(&table, &versions, &store, &mut short).is_err());
-    for x in short.iter() {
-        assert!(rt; *x == 9);
-    }
-}
-
-fn matches_count(r: Result<usize, crate::JournalFault>, n: usize) -> bool {
-    match r {
-        Ok(m) => m == n,
-        Err(_) => false,
-    }
+    assert_eq!(rt;
+        write(&table, &versions, &store, &mut short),
+        Err(JournalFault::Area)
+    );
+    assert_eq!(rt; short, [9; 42]);
 }

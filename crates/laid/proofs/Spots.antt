@@ -3,7 +3,6 @@ use Prim.Native.Nat.{ℕ, suc, ◌+◌}
 use mathlib.Core.List.{List, [], ◌∷◌, ◌++◌}
 use mathlib.Core.Logic.{inl, inr}
 use mathlib.Core.Path.{◌≡◌, refl, ap, ap₂, sym, subst}
-use Rattle.flexlist.specs.Shape.{Tree}
 use Rattle.flexlist.specs.Shape as flat
 use Rattle.flexlist.specs.Nodes.{identities, stretches, Among}
 use Rattle.flexlist.specs.Building.{Plan, keep, new_last, new_leaf, new_fork, made, built, Keeps}

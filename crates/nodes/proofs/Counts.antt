@@ -1,33 +1,33 @@
 -- Which way a walk goes by its count of blocks, and what it counts on from there. Assumes nothing.
-use Rattle.std.proofs.Common.{◌≡◌, ℕ, suc, ◌+◌, ◌-◌, ◌<◌, ◌≤◌, min, List, length, ◌∙◌, arith}
+use Rattle.std.proofs.Common.{◌≡◌, ℕ, suc, ◌+◌, ◌-◌, ◌<◌, ◌≤◌, min, List, length, ◌∙◌, arith, Some, None}
 use Rattle.std.specs.List.{slice_get}
 use Rattle.flexlist.specs.Nodes.{leaves}
 use Rattle.summary.specs.Summing.{Summing}
 use Rattle.nodes.specs.declared.node.Node.{Node}
-use Rattle.nodes.specs.declared.view.View.TheVariants.{Nothing, Last, Followed, Forked}
+use Rattle.nodes.specs.declared.node.Shape.TheVariants.{Leaf, Fork}
 use Rattle.laid.specs.Laid.{Laid, last, leaf, fork, plain}
 use Rattle.nodes.specs.Holding.{Content}
 use Rattle.nodes.specs.Views.{seen, blocks_in}
 use Rattle.nodes.specs.Walking.{Ready, CountedTo, BlockOf}
-use Rattle.nodes.proofs.Held.{from_nothing, from_last, from_followed, from_forked, seen_held, blocks_held, ready_leaf, ready_below, ready_after, some_leaf}
+use Rattle.nodes.proofs.Held.{from_nothing, from_last, from_followed, from_forked, seen_held, blocks_held, ready_leaf, ready_below, ready_after, leaves_some}
 
 module _ {R Q : Type 0} (s : Summing R Q) (rows : List (List R)) (c : ℕ → Content R) {table : List (Node Q)} {used at : ℕ} where
   -- a tree that is ready, by what is seen at its root
-  pub at_nothing : (t : Laid) → Nothing ≡ seen at (slice_get table at) → Ready s rows c table used at t → ⊥
+  pub at_nothing : (t : Laid) → None ≡ seen at (slice_get table at) → Ready s rows c table used at t → ⊥
   at_nothing t v h = from_nothing c t (v ∙ seen_held s c table at t h.holds h.here)
 
-  pub at_last : (P : Laid → Type 0) (t : Laid) {b l : ℕ} → Last b l ≡ seen at (slice_get table at) → Ready s rows c table used at t
+  pub at_last : (P : Laid → Type 0) (t : Laid) {b l : ℕ} → Some (Leaf b l None) ≡ seen at (slice_get table at) → Ready s rows c table used at t
       → ((e a : ℕ) → BlockOf rows (c a) b l → Ready s rows c table used at (last e a) → P (last e a)) → P t
   at_last P t v h f = from_last c (λ t. Ready s rows c table used at t → P t) t (v ∙ seen_held s c table at t h.holds h.here)
       (λ e a p q h. f e a (record { stored = h.stored; number = p; size = q }) h) h
 
-  pub at_followed : (P : Laid → Type 0) (t : Laid) {b l k : ℕ} → Followed b l k ≡ seen at (slice_get table at) → Ready s rows c table used at t
+  pub at_followed : (P : Laid → Type 0) (t : Laid) {b l k : ℕ} → Some (Leaf b l (Some k)) ≡ seen at (slice_get table at) → Ready s rows c table used at t
       → ((e a : ℕ) (y : Laid) → BlockOf rows (c a) b l → Ready s rows c table used k y → Ready s rows c table used at (leaf e a y) → P (leaf e a y)) → P t
   at_followed P t {k = k} v h f =
       from_followed c (λ t. Ready s rows c table used at t → P t) t (v ∙ seen_held s c table at t h.holds h.here)
       (λ e a y p q g h. f e a y (record { stored = h.stored.0; number = p; size = q }) (ready_leaf s rows c k g h) h) h
 
-  pub at_forked : (P : Laid → Type 0) (t : Laid) {m j k : ℕ} → Forked m j k ≡ seen at (slice_get table at) → Ready s rows c table used at t
+  pub at_forked : (P : Laid → Type 0) (t : Laid) {m j k : ℕ} → Some (Fork m j k) ≡ seen at (slice_get table at) → Ready s rows c table used at t
       → ((e : ℕ) (x y : Laid) → Ready s rows c table used j x → Ready s rows c table used k y → Ready s rows c table used at (fork e m x y) → P (fork e m x y)) → P t
   at_forked P t {j = j} {k = k} v h f =
       from_forked c (λ t. Ready s rows c table used at t → P t) t (v ∙ seen_held s c table at t h.holds h.here)
@@ -64,7 +64,7 @@ module _ {R Q : Type 0} (s : Summing R Q) (rows : List (List R)) (c : ℕ → Co
   unfolding leaves
   to_after {j = j} {x = x} b u h g i =
       let count = blocks_held s c table j x h.holds h.here h.counted in
-      let some = some_leaf c x in
+      let some = leaves_some (plain x) in
       let low = i.0 in
       let up = i.1 in
       let solid = g.counted.solid.1 in

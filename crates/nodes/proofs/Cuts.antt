@@ -6,13 +6,13 @@ use Rattle.flexlist.specs.Building.{keep, new_leaf, new_fork}
 use Rattle.flexlist.specs.Nodes.{leaves}
 use Rattle.summary.specs.Summing.{Summing}
 use Rattle.nodes.specs.declared.node.Node.{Node}
-use Rattle.nodes.specs.declared.view.View.TheVariants.{Nothing, Last, Followed, Forked}
+use Rattle.nodes.specs.declared.node.Shape.TheVariants.{Leaf, Fork}
 use Rattle.laid.specs.Laid.{Laid, last, leaf, fork, plain}
 use Rattle.nodes.specs.Holding.{Content, Grown}
 use Rattle.nodes.specs.Views.{seen, blocks_in}
 use Rattle.nodes.specs.Making.{LeafWritten, ForkWritten}
 use Rattle.nodes.specs.Cutting.{left_at, right_at, cut_at, LeftMade, RightMade, CutMade}
-use Rattle.nodes.proofs.Held.{ready_on, some_leaf}
+use Rattle.nodes.proofs.Held.{ready_on, leaves_some}
 use Rattle.nodes.proofs.Counts.{count_of}
 use Rattle.nodes.proofs.Laying.{Laying, room_leaf, room_below, room_beside, room_after, lay_kept, lay_last, lay_leaf, lay_fork}
 use Rattle.nodes.proofs.Tables.{grown_none}
@@ -34,10 +34,10 @@ left_after_is e m x y p h i = cond-false _ _ _ (le-ltb p (leaves (plain x)) h) �
 pub left_end_is : {R : Type 0} (c : ℕ → Content R) (t : Laid) (p : ℕ) → leaves (plain t) ≡ suc p → left_at t p ≡ keep t
 unfolding left_at leaves
 left_end_is c (last e a) p h = refl
-left_end_is c (leaf e a t) ℕ.zero h = let some = some_leaf c t in absurd (omega arith)
+left_end_is c (leaf e a t) ℕ.zero h = let some = leaves_some (plain t) in absurd (omega arith)
 left_end_is c (leaf e a t) (suc p) h = cond-true _ _ _ (le-leb (leaves (plain t)) (suc p) (omega arith))
 left_end_is c (fork e m x y) p h =
-    let some = some_leaf c y in
+    let some = leaves_some (plain y) in
     let past : leaves (plain x) ≤ p = omega arith in
     let just : leaves (plain y) ≤ suc (p - leaves (plain x)) = omega arith in
     cond-false _ _ _ (le-ltb p (leaves (plain x)) past) ∙ cond-true _ _ _ (le-leb (leaves (plain y)) (suc (p - leaves (plain x))) just)
@@ -57,19 +57,19 @@ module _ {R Q : Type 0} (s : Summing R Q) (rows : List (List R)) (before : List 
       let total = count.1 in
       subst (Laying s rows c before used before at used) (sym (left_end_is c t place (omega arith))) (λ room. lay_kept s rows c t h)
 
-  pub left_nothing : {after : List (Node Q)} {r next : ℕ} → Nothing ≡ seen at (slice_get before at) → LeftMade s rows before used at upto after r next
+  pub left_nothing : {after : List (Node Q)} {r next : ℕ} → None ≡ seen at (slice_get before at) → LeftMade s rows before used at upto after r next
   left_nothing see c = walk_nothing s rows c left_at see
 
-  pub left_last : {b l : ℕ} → Last b l ≡ seen at (slice_get before at) → LeftMade s rows before used at upto before at used
+  pub left_last : {b l : ℕ} → Some (Leaf b l None) ≡ seen at (slice_get before at) → LeftMade s rows before used at upto before at used
   unfolding left_at
   left_last see c = walk_last s rows c left_at see (λ e a p _ h _ room. lay_kept s rows c (last e a) h)
 
-  pub left_stop : {after : List (Node Q)} {b l k own next : ℕ} → Followed b l k ≡ seen at (slice_get before at) → own ≡ min l 1 → upto ≤ own
+  pub left_stop : {after : List (Node Q)} {b l k own next : ℕ} → Some (Leaf b l (Some k)) ≡ seen at (slice_get before at) → own ≡ min l 1 → upto ≤ own
       → LeafWritten s rows before used b l None after next → LeftMade s rows before used at upto after used next
   unfolding left_at
   left_stop see o u w c = walk_stop s rows c left_at see o u (λ e a y old _ _ room. lay_last s rows c a w old room)
 
-  pub left_on : {mid after : List (Node Q)} {blocks b l k own r v next : ℕ} → blocks ≡ blocks_in (slice_get before at) → (blocks ≡ upto → ⊥) → Followed b l k ≡ seen at (slice_get before at) → own ≡ min l 1 → own < upto
+  pub left_on : {mid after : List (Node Q)} {blocks b l k own r v next : ℕ} → blocks ≡ blocks_in (slice_get before at) → (blocks ≡ upto → ⊥) → Some (Leaf b l (Some k)) ≡ seen at (slice_get before at) → own ≡ min l 1 → own < upto
       → LeftMade s rows before used k (upto - own) mid r v → length mid ≡ length before
       → LeafWritten s rows mid v b l (Some r) after next → LeftMade s rows before used at upto after v next
   unfolding leaves
@@ -82,13 +82,13 @@ module _ {R Q : Type 0} (s : Summing R Q) (rows : List (List R)) (before : List 
       subst (Laying s rows c before used after v next) (sym (left_on_is e a y p (omega arith)))
       (λ room. lay_leaf s rows c before a (left_at y p) (rest c y p ready j (room_leaf s rows c _ room)) w old size room))
 
-  pub left_below : {after : List (Node Q)} {m j k blocks r next : ℕ} → Forked m j k ≡ seen at (slice_get before at) → blocks ≡ blocks_in (slice_get before j) → upto ≤ blocks
+  pub left_below : {after : List (Node Q)} {m j k blocks r next : ℕ} → Some (Fork m j k) ≡ seen at (slice_get before at) → blocks ≡ blocks_in (slice_get before j) → upto ≤ blocks
       → LeftMade s rows before used j upto after r next → LeftMade s rows before used at upto after r next
   left_below {after} {m} {r = r} {next = next} see b u part c =
       walk_below s rows c left_at see b u
       (λ e x y p low below behind _ _ i. subst (Laying s rows c before used after r next) (sym (left_below_is e m x y p low)) (part c x p below i))
 
-  pub left_after : {mid after : List (Node Q)} {m j k blocks all r v next : ℕ} → all ≡ blocks_in (slice_get before at) → (all ≡ upto → ⊥) → Forked m j k ≡ seen at (slice_get before at) → blocks ≡ blocks_in (slice_get before j) → blocks < upto
+  pub left_after : {mid after : List (Node Q)} {m j k blocks all r v next : ℕ} → all ≡ blocks_in (slice_get before at) → (all ≡ upto → ⊥) → Some (Fork m j k) ≡ seen at (slice_get before at) → blocks ≡ blocks_in (slice_get before j) → blocks < upto
       → Grown before used mid v → LeftMade s rows before used k (upto - blocks) mid r v → length mid ≡ length before
       → ForkWritten s mid v m j r after next → LeftMade s rows before used at upto after v next
   unfolding leaves
@@ -102,25 +102,25 @@ module _ {R Q : Type 0} (s : Summing R Q) (rows : List (List R)) (before : List 
       (λ room. lay_fork s rows c before m (keep x) (left_at y (p - leaves (plain x))) (lay_kept s rows c x below) grown (part c y _ behind j (room_beside s rows c x _ room)) w size room))
 
 module _ {R Q : Type 0} (s : Summing R Q) (rows : List (List R)) (before : List (Node Q)) {used at upto block len : ℕ} where
-  pub right_nothing : {after : List (Node Q)} {r next : ℕ} → Nothing ≡ seen at (slice_get before at) → RightMade s rows before used at upto block len after r next
+  pub right_nothing : {after : List (Node Q)} {r next : ℕ} → None ≡ seen at (slice_get before at) → RightMade s rows before used at upto block len after r next
   right_nothing see c n k = walk_nothing s rows c (right_at n) see
 
-  pub right_last : {after : List (Node Q)} {b l next : ℕ} → Last b l ≡ seen at (slice_get before at)
+  pub right_last : {after : List (Node Q)} {b l next : ℕ} → Some (Leaf b l None) ≡ seen at (slice_get before at)
       → LeafWritten s rows before used block len None after next → RightMade s rows before used at upto block len after used next
   unfolding right_at
   right_last see w c n k = walk_last s rows c (right_at n) see (λ e a p _ _ _ room. lay_last s rows c n w k room)
 
-  pub right_stop : {after : List (Node Q)} {b l k own next : ℕ} → Followed b l k ≡ seen at (slice_get before at) → own ≡ min l 1 → upto ≤ own
+  pub right_stop : {after : List (Node Q)} {b l k own next : ℕ} → Some (Leaf b l (Some k)) ≡ seen at (slice_get before at) → own ≡ min l 1 → upto ≤ own
       → LeafWritten s rows before used block len (Some k) after next → RightMade s rows before used at upto block len after used next
   unfolding right_at
   right_stop see o u w c n k = walk_stop s rows c (right_at n) see o u (λ e a y _ ready _. lay_leaf s rows c before n (keep y) (lay_kept s rows c y ready) w k refl)
 
-  pub right_on : {after : List (Node Q)} {b l k own r next : ℕ} → Followed b l k ≡ seen at (slice_get before at) → own ≡ min l 1 → own < upto
+  pub right_on : {after : List (Node Q)} {b l k own r next : ℕ} → Some (Leaf b l (Some k)) ≡ seen at (slice_get before at) → own ≡ min l 1 → own < upto
       → RightMade s rows before used k (upto - own) block len after r next → RightMade s rows before used at upto block len after r next
   unfolding right_at
   right_on see o u rest c n k = walk_on s rows c (right_at n) see o u (λ e a y p _ ready _ _ i. rest c n k y p ready i)
 
-  pub right_below : {mid after : List (Node Q)} {m j k blocks r v next : ℕ} → Forked m j k ≡ seen at (slice_get before at) → blocks ≡ blocks_in (slice_get before j) → upto ≤ blocks
+  pub right_below : {mid after : List (Node Q)} {m j k blocks r v next : ℕ} → Some (Fork m j k) ≡ seen at (slice_get before at) → blocks ≡ blocks_in (slice_get before j) → upto ≤ blocks
       → Grown before used mid v → RightMade s rows before used j upto block len mid r v → length mid ≡ length before
       → ForkWritten s mid v m r k after next → RightMade s rows before used at upto block len after v next
   right_below {mid} {after} {m} {v = v} {next = next} see b u grown part size w c n k =
@@ -129,7 +129,7 @@ module _ {R Q : Type 0} (s : Summing R Q) (rows : List (List R)) (before : List 
       subst (Laying s rows c before used after v next) (sym (right_below_is n e m x y p low))
       (λ room. lay_fork s rows c before m (right_at n x p) (keep y) (part c n k x p below i (room_below s rows c _ _ room)) (grown_none mid v) (lay_kept s rows c y (ready_on s rows c y grown behind)) w size room))
 
-  pub right_after : {after : List (Node Q)} {m j k blocks r next : ℕ} → Forked m j k ≡ seen at (slice_get before at) → blocks ≡ blocks_in (slice_get before j) → blocks < upto
+  pub right_after : {after : List (Node Q)} {m j k blocks r next : ℕ} → Some (Fork m j k) ≡ seen at (slice_get before at) → blocks ≡ blocks_in (slice_get before j) → blocks < upto
       → RightMade s rows before used k (upto - blocks) block len after r next → RightMade s rows before used at upto block len after r next
   right_after {after} {m} {r = r} {next = next} see b u part c n k =
       walk_after s rows c (right_at n) see b u

@@ -1,42 +1,50 @@
 -- A held tree: what is seen at its root, what its nodes count, its parts, and that it stays where a table grows. Assumes nothing.
-use Rattle.std.proofs.Common.{◌≡◌, ℕ, ◌+◌, ◌<◌, ltb, List, length, Some, sym, ap, ◌∙◌, subst, arith}
+use Rattle.std.proofs.Common.{◌≡◌, ℕ, ◌+◌, ◌<◌, ltb, List, length, Some, sym, ap, ◌∙◌, subst, arith, None, Option}
 use Rattle.std.specs.List.{slice_get}
 use Rattle.std.proofs.lemmas.Bool.{lt-ltb, cond-true, and_from}
+use Rattle.flexlist.specs.Shape.{Tree}
+use Rattle.flexlist.specs.Shape as flat
 use Rattle.flexlist.specs.Nodes.{leaves}
 use Rattle.summary.specs.Summing.{Summing}
 use Rattle.nodes.specs.declared.node.Node.{Node}
-use Rattle.nodes.specs.declared.view.View.{View}
-use Rattle.nodes.specs.declared.view.View.TheVariants.{Nothing, Last, Followed, Forked}
+use Rattle.nodes.specs.declared.node.Shape.{Shape}
+use Rattle.nodes.specs.declared.node.Shape.TheVariants.{Leaf, Fork}
 use Rattle.laid.specs.Laid.{Laid, last, leaf, fork, plain, root, leader}
 use Rattle.nodes.specs.Holding.{Content, own_blocks, node_of, Holds, Grown, Counted}
 use Rattle.nodes.specs.Views.{seen, blocks_in}
 use Rattle.nodes.specs.Walking.{Ready}
 
+pub leaves_some : (t : Tree) → 0 < leaves t
+unfolding leaves
+leaves_some (flat.Tree.last a) = omega arith
+leaves_some (flat.Tree.leaf a t) = omega arith
+leaves_some (flat.Tree.fork m s t) = omega (arith, leaves_some s)
+
 module _ {R : Type 0} (c : ℕ → Content R) where
   -- what is to be seen at the root of a tree
-  abbrev pub view_of : Laid → View
-  view_of (last e a) = Last (c a).number (length (c a).row)
-  view_of (leaf e a t) = Followed (c a).number (length (c a).row) (root t)
-  view_of (fork e m x y) = Forked m (root x) (root y)
+  abbrev pub view_of : Laid → Option Shape
+  view_of (last e a) = Some (Leaf (c a).number (length (c a).row) None)
+  view_of (leaf e a t) = Some (Leaf (c a).number (length (c a).row) (Some (root t)))
+  view_of (fork e m x y) = Some (Fork m (root x) (root y))
 
-  pub from_nothing : (t : Laid) → Nothing ≡ view_of t → ⊥
+  pub from_nothing : (t : Laid) → None ≡ view_of t → ⊥
   from_nothing (last e a) v = let z : ◌≡◌ {A = ℕ} 0 1 = cc in omega arith
   from_nothing (leaf e a t) v = let z : ◌≡◌ {A = ℕ} 0 1 = cc in omega arith
   from_nothing (fork e m x y) v = let z : ◌≡◌ {A = ℕ} 0 1 = cc in omega arith
 
-  pub from_last : (P : Laid → Type 0) (t : Laid) {b l : ℕ} → Last b l ≡ view_of t
+  pub from_last : (P : Laid → Type 0) (t : Laid) {b l : ℕ} → Some (Leaf b l None) ≡ view_of t
       → ((e a : ℕ) → b ≡ (c a).number → l ≡ length (c a).row → P (last e a)) → P t
   from_last P (last e a) v f = f e a (cc) (cc)
   from_last P (leaf e a t) v f = let z : ◌≡◌ {A = ℕ} 0 1 = cc in absurd (omega arith)
   from_last P (fork e m x y) v f = let z : ◌≡◌ {A = ℕ} 0 1 = cc in absurd (omega arith)
 
-  pub from_followed : (P : Laid → Type 0) (t : Laid) {b l k : ℕ} → Followed b l k ≡ view_of t
+  pub from_followed : (P : Laid → Type 0) (t : Laid) {b l k : ℕ} → Some (Leaf b l (Some k)) ≡ view_of t
       → ((e a : ℕ) (y : Laid) → b ≡ (c a).number → l ≡ length (c a).row → root y ≡ k → P (leaf e a y)) → P t
   from_followed P (last e a) v f = let z : ◌≡◌ {A = ℕ} 0 1 = cc in absurd (omega arith)
   from_followed P (leaf e a t) v f = f e a t (cc) (cc) (cc)
   from_followed P (fork e m x y) v f = let z : ◌≡◌ {A = ℕ} 0 1 = cc in absurd (omega arith)
 
-  pub from_forked : (P : Laid → Type 0) (t : Laid) {m j k : ℕ} → Forked m j k ≡ view_of t
+  pub from_forked : (P : Laid → Type 0) (t : Laid) {m j k : ℕ} → Some (Fork m j k) ≡ view_of t
       → ((e : ℕ) (x y : Laid) → root x ≡ j → root y ≡ k → P (fork e m x y)) → P t
   from_forked P (last e a) v f = let z : ◌≡◌ {A = ℕ} 0 1 = cc in absurd (omega arith)
   from_forked P (leaf e a t) v f = let z : ◌≡◌ {A = ℕ} 0 1 = cc in absurd (omega arith)
@@ -54,12 +62,6 @@ module _ {R : Type 0} (c : ℕ → Content R) where
   pub counted_after : {e m : ℕ} {x y : Laid} → Counted c (fork e m x y) → Counted c y
   unfolding leaves
   counted_after h = let few = h.few in record { solid = h.solid.2; few = omega arith }
-
-  pub some_leaf : (t : Laid) → 0 < leaves (plain t)
-  unfolding leaves
-  some_leaf (last e a) = omega arith
-  some_leaf (leaf e a t) = omega arith
-  some_leaf (fork e m x y) = let more = some_leaf x in omega arith
 
 module _ {R Q : Type 0} (s : Summing R Q) (c : ℕ → Content R) where
   pub held_root : (table : List (Node Q)) (t : Laid) → Holds s c table t → slice_get table (root t) ≡ Some (node_of s c t)
@@ -92,7 +94,7 @@ module _ {R Q : Type 0} (s : Summing R Q) (c : ℕ → Content R) where
       let solid = h.solid.1 in
       let below = blocks_of x (counted_below c h) in
       let after = blocks_of y (counted_after c h) in
-      let some = some_leaf c x in
+      let some = leaves_some (plain x) in
       omega arith
 
   pub blocks_held : (table : List (Node Q)) (at : ℕ) (t : Laid) → Holds s c table t → root t ≡ at → Counted c t → blocks_in (slice_get table at) + 1 ≡ leaves (plain t) + own_blocks (length (c (leader t)).row)

@@ -1,10 +1,10 @@
 -- A tree under another leader, arm by arm of the walk. Assumes nothing.
-use Rattle.std.proofs.Common.{◌≡◌, ℕ, List, length, Some, None, refl}
+use Rattle.std.proofs.Common.{◌≡◌, ℕ, List, length, Some, None, Option, refl}
 use Rattle.std.specs.List.{slice_get}
 use Rattle.flexlist.specs.Building.{keep}
 use Rattle.summary.specs.Summing.{Summing}
 use Rattle.nodes.specs.declared.node.Node.{Node}
-use Rattle.nodes.specs.declared.view.View.TheVariants.{Nothing, Last, Followed, Forked}
+use Rattle.nodes.specs.declared.node.Shape.TheVariants.{Leaf, Fork}
 use Rattle.nodes.specs.Holding.{Grown}
 use Rattle.nodes.specs.Views.{seen}
 use Rattle.nodes.specs.Making.{LeafWritten, ForkWritten}
@@ -15,21 +15,17 @@ use Rattle.nodes.proofs.Laying.{Laying, room_below, lay_kept, lay_last, lay_leaf
 use Rattle.nodes.proofs.Tables.{grown_none}
 
 module _ {R Q : Type 0} (s : Summing R Q) (rows : List (List R)) (before : List (Node Q)) {used at block len : ℕ} where
-  pub lead_nothing : {after : List (Node Q)} {r next : ℕ} → Nothing ≡ seen at (slice_get before at) → Led s rows before used at block len after r next
+  pub lead_nothing : {after : List (Node Q)} {r next : ℕ} → None ≡ seen at (slice_get before at) → Led s rows before used at block len after r next
   lead_nothing see c n k t h room = absurd (at_nothing s rows c t see h)
 
-  pub lead_last : {after : List (Node Q)} {b l next : ℕ} → Last b l ≡ seen at (slice_get before at)
-      → LeafWritten s rows before used block len None after next → Led s rows before used at block len after used next
+  pub lead_leaf : {after : List (Node Q)} {b l next : ℕ} (j : Option ℕ) → Some (Leaf b l j) ≡ seen at (slice_get before at)
+      → LeafWritten s rows before used block len j after next → Led s rows before used at block len after used next
   unfolding led_by
-  lead_last {after} {next = next} see w c n k t h = at_last s rows c (λ t. Laying s rows c before used after used next (led_by n t)) t see h (λ _ _ _ _ room. lay_last s rows c n w k room)
-
-  pub lead_leaf : {after : List (Node Q)} {b l j next : ℕ} → Followed b l j ≡ seen at (slice_get before at)
-      → LeafWritten s rows before used block len (Some j) after next → Led s rows before used at block len after used next
-  unfolding led_by
-  lead_leaf {after} {next = next} see w c n k t h =
+  lead_leaf {after} {next = next} None see w c n k t h = at_last s rows c (λ t. Laying s rows c before used after used next (led_by n t)) t see h (λ _ _ _ _ room. lay_last s rows c n w k room)
+  lead_leaf {after} {next = next} (Some j) see w c n k t h =
       at_followed s rows c (λ t. Laying s rows c before used after used next (led_by n t)) t see h (λ _ _ y _ ready _ room. lay_leaf s rows c before n (keep y) (lay_kept s rows c y ready) w k refl room)
 
-  pub lead_fork : {mid after : List (Node Q)} {m i j r v next : ℕ} → Forked m i j ≡ seen at (slice_get before at)
+  pub lead_fork : {mid after : List (Node Q)} {m i j r v next : ℕ} → Some (Fork m i j) ≡ seen at (slice_get before at)
       → Grown before used mid v → Led s rows before used i block len mid r v → length mid ≡ length before
       → ForkWritten s mid v m r j after next → Led s rows before used at block len after v next
   unfolding led_by

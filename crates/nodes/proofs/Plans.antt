@@ -10,6 +10,7 @@ use Rattle.laid.specs.Laid.{Laid, last, leaf, fork, plain, plain_plan}
 use Rattle.nodes.specs.Changing.{change_at}
 use Rattle.nodes.specs.Cutting.{ends_at, left_at, right_at, cut_at, insert_at}
 use Rattle.nodes.proofs.Changes.{change_below_is, change_after_is}
+use Rattle.nodes.proofs.Held.{leaves_some}
 use Rattle.nodes.proofs.Cuts.{left_below_is, right_below_is, right_after_is}
 
 pub plain_cond : (b : Bool) (x y : Plan Laid) → plain_plan (cond b x y) ≡ cond b (plain_plan x) (plain_plan y)
@@ -18,12 +19,6 @@ plain_cond false x y = refl
 
 pub cond_same : {A : Type 0} (b c : Bool) (x y x' y' : A) → b ≡ c → x ≡ x' → y ≡ y' → cond b x y ≡ cond c x' y'
 cond_same b c x y x' y' e f g = ap (λ i. cond i x y) e ∙ ap (λ i. cond c i y) f ∙ ap (cond c x') g
-
-some : (t : Tree) → 0 < leaves t
-unfolding leaves
-some (flat.Tree.last a) = omega arith
-some (flat.Tree.leaf a t) = omega arith
-some (flat.Tree.fork m s t) = let more = some s in omega arith
 
 same_test : (a b c d : ℕ) → (a ≤ b → c ≤ d) → (b < a → d < c) → leb a b ≡ leb c d
 same_test a b c d f g =
@@ -49,11 +44,11 @@ change_plain n (fork e m x y) p =
 pub ends_plain : (t : Tree) (p : ℕ) → at_end (to_place t p) ≡ leb (leaves t) (suc p)
 unfolding at_end to_place leaves
 ends_plain (flat.Tree.last a) p = sym (le-leb 1 (suc p) (omega arith))
-ends_plain (flat.Tree.leaf a t) zero = sym (lt-leb (suc (leaves t)) 1 (omega (arith, some t)))
+ends_plain (flat.Tree.leaf a t) zero = sym (lt-leb (suc (leaves t)) 1 (omega (arith, leaves_some t)))
 ends_plain (flat.Tree.leaf a t) (suc p) = ends_plain t p ∙ same_test (leaves t) (suc p) (suc (leaves t)) (suc (suc p)) (λ h. omega arith) (λ h. omega arith)
 ends_plain (flat.Tree.fork m s t) p =
     ⊎_elim
-    (λ h. ap at_end (to_place_below m s t p h) ∙ sym (lt-leb (leaves s + leaves t) (suc p) (omega (arith, some t))))
+    (λ h. ap at_end (to_place_below m s t p h) ∙ sym (lt-leb (leaves s + leaves t) (suc p) (omega (arith, leaves_some t))))
     (λ h. let q = p - leaves s in
     let over : p ≡ leaves s + q = omega arith in
     ap at_end (to_place_after m s t p q over) ∙ ends_plain t q ∙ same_test (leaves t) (suc q) (leaves s + leaves t) (suc p) (λ h. omega arith) (λ h. omega arith))

@@ -1,5 +1,5 @@
 -- A node made from a block or from its parts, and written at the next free entry. Assumes nothing.
-use Rattle.std.specs.Prelude.{◌≡◌, ℕ, ◌+◌, ◌^◌, ◌<◌, List, length, Some, None, Option}
+use Rattle.std.specs.Prelude.{◌≡◌, ℕ, ◌+◌, ◌-◌, ◌^◌, ◌<◌, ◌≤◌, List, length, take, drop, Some, None, Option}
 use Rattle.std.specs.List.{slice_get}
 use Rattle.summary.specs.Summing.{Summing, summary_of}
 use Rattle.nodes.specs.declared.node.Node.{Node}
@@ -10,9 +10,9 @@ abbrev pub Stored : {R : Type 0} → List (List R) → Content R → Type 0
 Stored rows c = 0 < length c.row → slice_get rows c.number ≡ Some c.row
 
 module _ {R Q : Type 0} (s : Summing R Q) (rows : List (List R)) where
-  -- the summary of a stored block's row alone
-  abbrev pub RowSummary : ℕ → ℕ → Q → Type 0
-  RowSummary block len r = (c : Content R) → Stored rows c → block ≡ c.number → len ≡ length c.row → r ≡ summary_of s c.row
+  -- the summary of a part of a stored row, from place a to b − 1
+  abbrev pub PartSummed : ℕ → ℕ → ℕ → Q → Type 0
+  PartSummed block a b r = (c : Content R) → Stored rows c → block ≡ c.number → a ≤ b → b ≤ length c.row → r ≡ summary_of s (take (b - a) (drop a c.row))
 
   -- what follows a leaf: nothing, or the node that stands at an entry
   abbrev pub Follows : List (Node Q) → Option ℕ → Option (ℕ × Node Q) → Type 0

@@ -1,28 +1,35 @@
 -- What a walk sees at an entry, what it writes, and what a write leaves. Assumes nothing.
-use Rattle.std.specs.Prelude.{◌≡◌, ℕ, ◌+◌, ◌^◌, ◌<◌, cond, ◌&&◌, List, length, Some, None, Option, nat_lt}
+use Rattle.std.specs.Prelude.{◌≡◌, ℕ, ◌+◌, ◌^◌, ◌<◌, Bool, true, cond, ◌&&◌, List, length, Some, None, Option, nat_lt}
 use Rattle.std.specs.List.{slice_get}
 use Rattle.nodes.specs.declared.node.Node.{Node}
 use Rattle.nodes.specs.declared.node.Shape.{Shape}
 use Rattle.nodes.specs.declared.node.Shape.TheVariants.{Leaf, Fork}
-use Rattle.nodes.specs.declared.view.View.{View}
-use Rattle.nodes.specs.declared.view.View.TheVariants.{Nothing, Last, Followed, Forked}
 use Rattle.nodes.specs.Holding.{Grown}
 
+-- whether the parts of a shape stand below entry e
+abbrev pub parts_below : ℕ → Shape → Bool
+parts_below e (Leaf block length None) = true
+parts_below e (Leaf block length (Some after)) = nat_lt after e
+parts_below e (Fork level below after) = nat_lt below e && nat_lt after e
+
 -- a shape seen at entry e: its parts must stand below it
-abbrev pub shape_seen : ℕ → Shape → View
-shape_seen e (Leaf block length None) = Last block length
-shape_seen e (Leaf block length (Some after)) = cond (nat_lt after e) (Followed block length after) Nothing
-shape_seen e (Fork level below after) = cond (nat_lt below e && nat_lt after e) (Forked level below after) Nothing
+abbrev pub shape_seen : ℕ → Shape → Option Shape
+shape_seen e shape = cond (parts_below e shape) (Some shape) None
 
 -- what is seen at entry e
-abbrev pub seen : {Q : Type 0} → ℕ → Option (Node Q) → View
-seen e None = Nothing
+abbrev pub seen : {Q : Type 0} → ℕ → Option (Node Q) → Option Shape
+seen e None = None
 seen e (Some n) = shape_seen e n.shape
 
 -- how many blocks the node at an entry counts, 0 where there is none
 abbrev pub blocks_in : {Q : Type 0} → Option (Node Q) → ℕ
 blocks_in None = 0
 blocks_in (Some n) = n.blocks
+
+-- how many readings, likewise
+abbrev pub readings_in : {Q : Type 0} → Option (Node Q) → ℕ
+readings_in None = 0
+readings_in (Some n) = n.readings
 
 -- A node written at the entry `used`: the table grew by it, where there is room and a next entry has a number.
 pub record Wrote {Q : Type 0} (before : List (Node Q)) (used : ℕ) (node : Node Q) (after : List (Node Q)) (next : ℕ) : Type 0 where

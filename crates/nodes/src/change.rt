@@ -3,9 +3,8 @@ ghost use Rattle.nodes.specs.Holding.{Grown};
 ghost use Rattle.nodes.specs.Changing.{Changed};
 
 use crate::makers::{write_fork, write_leaf};
-use crate::node::Node;
+use crate::node::{Node, Shape};
 use crate::table::{blocks_in, view};
-use crate::view::View;
 use crate::walks::Built;
 use store::BlockStore;
 use summary::Summary;
@@ -23,33 +22,24 @@ pub(crate) fn change<S: BlockStore, Q: Summary<Reading = S::Reading> + Copy>(
     ensures grown { Grown nodes.old used nodes.new result.used }
     ensures changed { Changed Q.Summary.means (S.BlockStore.rows store.now) nodes.old used at upto block length nodes.new result.root result.used }
 {
-    match view(nodes, at) {
-        View::Nothing => Built { root: at, used },
-        View::Last { .. } => Built {
-            root: used,
-            used: write_leaf(nodes, used, store, block, length, None),
-        },
-        View::Followed {
+    let Some(shape) = view(nodes, at) else {
+        return Built { root: at, used };
+    };
+    match shape {
+        Shape::Leaf { after: None, .. } => write_leaf(nodes, used, store, block, length, None),
+        Shape::Leaf {
             block: old,
             length: len,
-            after,
+            after: Some(after),
         } => {
             let own = len.min(1);
             if upto <= own {
-                let next = write_leaf(nodes, used, store, block, length, Some(after));
-                return Built {
-                    root: used,
-                    used: next,
-                };
+                return write_leaf(nodes, used, store, block, length, Some(after));
             }
             let rest = change(nodes, used, store, after, upto - own, block, length);
-            let next = write_leaf(nodes, rest.used, store, old, len, Some(rest.root));
-            Built {
-                root: rest.used,
-                used: next,
-            }
+            write_leaf(nodes, rest.used, store, old, len, Some(rest.root))
         }
-        View::Forked {
+        Shape::Fork {
             level,
             below,
             after,
@@ -57,18 +47,10 @@ pub(crate) fn change<S: BlockStore, Q: Summary<Reading = S::Reading> + Copy>(
             let left = blocks_in(nodes, below);
             if upto <= left {
                 let part = change(nodes, used, store, below, upto, block, length);
-                let next = write_fork(nodes, part.used, level, part.root, after);
-                return Built {
-                    root: part.used,
-                    used: next,
-                };
+                return write_fork(nodes, part.used, level, part.root, after);
             }
             let part = change(nodes, used, store, after, upto - left, block, length);
-            let next = write_fork(nodes, part.used, level, below, part.root);
-            Built {
-                root: part.used,
-                used: next,
-            }
+            write_fork(nodes, part.used, level, below, part.root)
         }
     }
 }

@@ -1,4 +1,7 @@
 // The edits of a tree in the table, each laid into the next free entries; places are given by how many blocks stand up to them.
+// The slice and its next free entry stay two parameters: the archive's table hands its slice to functions, and that form is the project's rule.
+// So do a block's number and length: each step takes a leaf's shape apart, and a pair of them would be put together again at each write.
+// Thin over functions with the same promise: those have proofs written by hand, and a fault here is then refused for the fact that fails.
 ghost use Rattle.nodes.specs.Holding.{Grown};
 ghost use Rattle.nodes.specs.Changing.{Changed};
 ghost use Rattle.nodes.specs.Cutting.{Inserted};

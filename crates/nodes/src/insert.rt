@@ -4,10 +4,9 @@ ghost use Rattle.nodes.specs.Holding.{Grown};
 ghost use Rattle.nodes.specs.Cutting.{CutMade, Inserted};
 
 use crate::makers::{write_fork, write_leaf};
-use crate::node::Node;
+use crate::node::{Node, Shape};
 use crate::pieces::{left, right};
 use crate::table::{blocks_in, view};
-use crate::view::View;
 use crate::walks::Built;
 use store::BlockStore;
 use summary::Summary;
@@ -28,11 +27,7 @@ fn cut<S: BlockStore, Q: Summary<Reading = S::Reading> + Copy>(
 {
     let first = left(nodes, used, store, at, upto);
     let second = right(nodes, first.used, store, at, upto, block, length);
-    let next = write_fork(nodes, second.used, level, first.root, second.root);
-    Built {
-        root: second.used,
-        used: next,
-    }
+    write_fork(nodes, second.used, level, first.root, second.root)
 }
 
 // Is a fork cut by a block put in before its second part? Also where the levels are equal: the new block is then the first.
@@ -63,45 +58,33 @@ pub(crate) fn insert<S: BlockStore, Q: Summary<Reading = S::Reading> + Copy>(
     ensures grown { Grown nodes.old used nodes.new result.used }
     ensures inserted { Inserted Q.Summary.means (S.BlockStore.rows store.now) nodes.old used at upto block length nodes.new result.root result.used level }
 {
-    match view(nodes, at) {
-        View::Nothing => Built { root: at, used },
-        View::Last { .. } if level > 0 => cut(nodes, used, store, at, upto, level, block, length),
-        View::Followed { .. } if level > 0 => cut(
-            nodes, used, store, at, upto, level, block, length,
-        ),
-        View::Last {
+    let Some(shape) = view(nodes, at) else {
+        return Built { root: at, used };
+    };
+    match shape {
+        Shape::Leaf { .. } if level > 0 => cut(nodes, used, store, at, upto, level, block, length),
+        Shape::Leaf {
             block: old,
             length: len,
+            after: None,
         } => {
             let leaf = write_leaf(nodes, used, store, block, length, None);
-            let next = write_leaf(nodes, leaf, store, old, len, Some(used));
-            Built {
-                root: leaf,
-                used: next,
-            }
+            write_leaf(nodes, leaf.used, store, old, len, Some(leaf.root))
         }
-        View::Followed {
+        Shape::Leaf {
             block: old,
             length: len,
-            after,
+            after: Some(after),
         } => {
             let own = len.min(1);
             if upto <= own {
                 let leaf = write_leaf(nodes, used, store, block, length, Some(after));
-                let next = write_leaf(nodes, leaf, store, old, len, Some(used));
-                return Built {
-                    root: leaf,
-                    used: next,
-                };
+                return write_leaf(nodes, leaf.used, store, old, len, Some(leaf.root));
             }
             let rest = insert(nodes, used, store, after, upto - own, level, block, length);
-            let next = write_leaf(nodes, rest.used, store, old, len, Some(rest.root));
-            Built {
-                root: rest.used,
-                used: next,
-            }
+            write_leaf(nodes, rest.used, store, old, len, Some(rest.root))
         }
-        View::Forked {
+        Shape::Fork {
             level: high,
             below,
             after,
@@ -112,11 +95,7 @@ pub(crate) fn insert<S: BlockStore, Q: Summary<Reading = S::Reading> + Copy>(
                     return cut(nodes, used, store, at, upto, level, block, length);
                 }
                 let part = insert(nodes, used, store, below, upto, level, block, length);
-                let next = write_fork(nodes, part.used, high, part.root, after);
-                return Built {
-                    root: part.used,
-                    used: next,
-                };
+                return write_fork(nodes, part.used, high, part.root, after);
             }
             if cuts_after(level, high) {
                 return cut(nodes, used, store, at, upto, level, block, length);
@@ -131,11 +110,7 @@ pub(crate) fn insert<S: BlockStore, Q: Summary<Reading = S::Reading> + Copy>(
                 block,
                 length,
             );
-            let next = write_fork(nodes, part.used, high, below, part.root);
-            Built {
-                root: part.used,
-                used: next,
-            }
+            write_fork(nodes, part.used, high, below, part.root)
         }
     }
 }

@@ -9,11 +9,10 @@ mod node;
 mod pieces;
 mod remove;
 mod table;
-mod view;
 mod walks;
 
 pub use edits::{write_change, write_insert, write_removal};
+pub use makers::part_summary;
 pub use node::{Node, Shape};
-pub use table::{blocks_in, entry, view as view_at};
-pub use view::View;
+pub use table::{blocks_in, entry, put, readings_in, view as view_at};
 pub use walks::Built;

@@ -1,7 +1,13 @@
 // A node of a version's FlexList, as it stands in a table: children are entries of the same table, below the node's own.
+// Entries and no references: one slice of nodes that versions share is the project's rule.
+ghost use Rattle.std.specs.Prelude.{◌≡◌, None};
+ghost use Rattle.history.specs.Edits.{lead};
+ghost use Rattle.nodes.specs.Holding.{leaf_node};
+
+use summary::Summary;
 
 // What a node is.
-#[derive(Clone, Copy)]
+#[derive(Clone, Copy, PartialEq, Eq, Debug)]
 pub enum Shape {
     // A block's leaf: its number in the store, its length, and the entry of what follows, if anything does. The lead has length 0.
     Leaf {
@@ -18,10 +24,28 @@ pub enum Shape {
 }
 
 // A node, with the counts of the readings and blocks of its whole stretch, and their summary. The lead is no block.
-#[derive(Clone, Copy)]
+#[derive(Clone, Copy, PartialEq, Eq, Debug)]
 pub struct Node<Q> {
     pub shape: Shape,
     pub readings: u32,
     pub blocks: u32,
     pub summary: Q,
+}
+
+impl<Q: Summary> Node<Q> {
+    // The leaf of the lead with nothing after it: it counts nothing, and its summary is that of no reading.
+    pub fn lead() -> Self
+        ensures { result ≡ leaf_node Q.Summary.means lead None }
+    {
+        Node {
+            shape: Shape::Leaf {
+                block: 0,
+                length: 0,
+                after: None,
+            },
+            readings: 0,
+            blocks: 0,
+            summary: Q::nothing(),
+        }
+    }
 }

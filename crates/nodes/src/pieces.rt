@@ -4,9 +4,8 @@ ghost use Rattle.nodes.specs.Holding.{Grown};
 ghost use Rattle.nodes.specs.Cutting.{LeftMade, RightMade, CutMade};
 
 use crate::makers::{write_fork, write_leaf};
-use crate::node::Node;
+use crate::node::{Node, Shape};
 use crate::table::{blocks_in, view};
-use crate::view::View;
 use crate::walks::Built;
 use store::BlockStore;
 use summary::Summary;
@@ -32,30 +31,24 @@ pub(crate) fn left<S: BlockStore, Q: Summary<Reading = S::Reading> + Copy>(
     if ends_at_cut(blocks_in(nodes, at), upto) {
         return Built { root: at, used };
     }
-    match view(nodes, at) {
-        View::Nothing => Built { root: at, used },
-        View::Last { .. } => Built { root: at, used },
-        View::Followed {
+    let Some(shape) = view(nodes, at) else {
+        return Built { root: at, used };
+    };
+    match shape {
+        Shape::Leaf { after: None, .. } => Built { root: at, used },
+        Shape::Leaf {
             block,
             length,
-            after,
+            after: Some(after),
         } => {
             let own = length.min(1);
             if upto <= own {
-                let next = write_leaf(nodes, used, store, block, length, None);
-                return Built {
-                    root: used,
-                    used: next,
-                };
+                return write_leaf(nodes, used, store, block, length, None);
             }
             let rest = left(nodes, used, store, after, upto - own);
-            let next = write_leaf(nodes, rest.used, store, block, length, Some(rest.root));
-            Built {
-                root: rest.used,
-                used: next,
-            }
+            write_leaf(nodes, rest.used, store, block, length, Some(rest.root))
         }
-        View::Forked {
+        Shape::Fork {
             level,
             below,
             after,
@@ -65,11 +58,7 @@ pub(crate) fn left<S: BlockStore, Q: Summary<Reading = S::Reading> + Copy>(
                 return left(nodes, used, store, below, upto);
             }
             let part = left(nodes, used, store, after, upto - count);
-            let next = write_fork(nodes, part.used, level, below, part.root);
-            Built {
-                root: part.used,
-                used: next,
-            }
+            write_fork(nodes, part.used, level, below, part.root)
         }
     }
 }
@@ -87,28 +76,23 @@ pub(crate) fn right<S: BlockStore, Q: Summary<Reading = S::Reading> + Copy>(
     ensures grown { Grown nodes.old used nodes.new result.used }
     ensures made { RightMade Q.Summary.means (S.BlockStore.rows store.now) nodes.old used at upto block length nodes.new result.root result.used }
 {
-    match view(nodes, at) {
-        View::Nothing => Built { root: at, used },
-        View::Last { .. } => Built {
-            root: used,
-            used: write_leaf(nodes, used, store, block, length, None),
-        },
-        View::Followed {
+    let Some(shape) = view(nodes, at) else {
+        return Built { root: at, used };
+    };
+    match shape {
+        Shape::Leaf { after: None, .. } => write_leaf(nodes, used, store, block, length, None),
+        Shape::Leaf {
             length: len,
-            after,
+            after: Some(after),
             ..
         } => {
             let own = len.min(1);
             if upto <= own {
-                let next = write_leaf(nodes, used, store, block, length, Some(after));
-                return Built {
-                    root: used,
-                    used: next,
-                };
+                return write_leaf(nodes, used, store, block, length, Some(after));
             }
             right(nodes, used, store, after, upto - own, block, length)
         }
-        View::Forked {
+        Shape::Fork {
             level,
             below,
             after,
@@ -116,11 +100,7 @@ pub(crate) fn right<S: BlockStore, Q: Summary<Reading = S::Reading> + Copy>(
             let count = blocks_in(nodes, below);
             if upto <= count {
                 let part = right(nodes, used, store, below, upto, block, length);
-                let next = write_fork(nodes, part.used, level, part.root, after);
-                return Built {
-                    root: part.used,
-                    used: next,
-                };
+                return write_fork(nodes, part.used, level, part.root, after);
             }
             right(nodes, used, store, after, upto - count, block, length)
         }

@@ -4,9 +4,8 @@ ghost use Rattle.nodes.specs.Holding.{Grown};
 ghost use Rattle.nodes.specs.Removing.{Led, Merged, Removed};
 
 use crate::makers::{write_fork, write_leaf};
-use crate::node::Node;
+use crate::node::{Node, Shape};
 use crate::table::{blocks_in, view};
-use crate::view::View;
 use crate::walks::Built;
 use store::BlockStore;
 use summary::Summary;
@@ -23,27 +22,18 @@ fn lead_by<S: BlockStore, Q: Summary<Reading = S::Reading> + Copy>(
     ensures grown { Grown nodes.old used nodes.new result.used }
     ensures led { Led Q.Summary.means (S.BlockStore.rows store.now) nodes.old used at block length nodes.new result.root result.used }
 {
-    match view(nodes, at) {
-        View::Nothing => Built { root: at, used },
-        View::Last { .. } => Built {
-            root: used,
-            used: write_leaf(nodes, used, store, block, length, None),
-        },
-        View::Followed { after, .. } => Built {
-            root: used,
-            used: write_leaf(nodes, used, store, block, length, Some(after)),
-        },
-        View::Forked {
+    let Some(shape) = view(nodes, at) else {
+        return Built { root: at, used };
+    };
+    match shape {
+        Shape::Leaf { after, .. } => write_leaf(nodes, used, store, block, length, after),
+        Shape::Fork {
             level,
             below,
             after,
         } => {
             let part = lead_by(nodes, used, store, below, block, length);
-            let next = write_fork(nodes, part.used, level, part.root, after);
-            Built {
-                root: part.used,
-                used: next,
-            }
+            write_fork(nodes, part.used, level, part.root, after)
         }
     }
 }
@@ -66,73 +56,60 @@ fn merge<S: BlockStore, Q: Summary<Reading = S::Reading> + Copy>(
     ensures grown { Grown nodes.old used nodes.new result.used }
     ensures merged { Merged Q.Summary.means (S.BlockStore.rows store.now) nodes.old used first second nodes.new result.root result.used }
 {
-    let one = view(nodes, first);
-    match view(nodes, second) {
-        View::Nothing => Built { root: first, used },
-        View::Last { .. } => Built { root: first, used },
-        View::Followed { after: rest, .. } => match one {
-            View::Nothing => Built { root: first, used },
-            View::Last { block, length } => Built {
-                root: used,
-                used: write_leaf(nodes, used, store, block, length, Some(rest)),
-            },
-            View::Followed {
+    let Some(one) = view(nodes, first) else {
+        return Built { root: first, used };
+    };
+    let Some(two) = view(nodes, second) else {
+        return Built { root: first, used };
+    };
+    match two {
+        Shape::Leaf { after: None, .. } => Built { root: first, used },
+        Shape::Leaf {
+            after: Some(rest),
+            ..
+        } => match one {
+            Shape::Leaf {
                 block,
                 length,
-                after,
+                after: None,
+            } => write_leaf(nodes, used, store, block, length, Some(rest)),
+            Shape::Leaf {
+                block,
+                length,
+                after: Some(after),
             } => {
                 let part = merge(nodes, used, store, after, second);
-                let next = write_leaf(nodes, part.used, store, block, length, Some(part.root));
-                Built {
-                    root: part.used,
-                    used: next,
-                }
+                write_leaf(nodes, part.used, store, block, length, Some(part.root))
             }
-            View::Forked {
+            Shape::Fork {
                 level,
                 below,
                 after,
             } => {
                 let part = merge(nodes, used, store, after, second);
-                let next = write_fork(nodes, part.used, level, below, part.root);
-                Built {
-                    root: part.used,
-                    used: next,
-                }
+                write_fork(nodes, part.used, level, below, part.root)
             }
         },
-        View::Forked {
+        Shape::Fork {
             level: high,
             below: low,
             after: rest,
         } => match one {
-            View::Forked {
+            Shape::Leaf { .. } => {
+                let part = merge(nodes, used, store, first, low);
+                write_fork(nodes, part.used, high, part.root, rest)
+            }
+            Shape::Fork {
                 level,
                 below,
                 after,
             } => {
                 if second_over(level, high) {
                     let part = merge(nodes, used, store, first, low);
-                    let next = write_fork(nodes, part.used, high, part.root, rest);
-                    return Built {
-                        root: part.used,
-                        used: next,
-                    };
+                    return write_fork(nodes, part.used, high, part.root, rest);
                 }
                 let part = merge(nodes, used, store, after, second);
-                let next = write_fork(nodes, part.used, level, below, part.root);
-                Built {
-                    root: part.used,
-                    used: next,
-                }
-            }
-            _ => {
-                let part = merge(nodes, used, store, first, low);
-                let next = write_fork(nodes, part.used, high, part.root, rest);
-                Built {
-                    root: part.used,
-                    used: next,
-                }
+                write_fork(nodes, part.used, level, below, part.root)
             }
         },
     }
@@ -149,26 +126,24 @@ pub(crate) fn remove<S: BlockStore, Q: Summary<Reading = S::Reading> + Copy>(
     ensures grown { Grown nodes.old used nodes.new result.used }
     ensures removed { Removed Q.Summary.means (S.BlockStore.rows store.now) nodes.old used at upto nodes.new result.root result.used }
 {
-    match view(nodes, at) {
-        View::Nothing => Built { root: at, used },
-        View::Last { .. } => Built { root: at, used },
-        View::Followed {
+    let Some(shape) = view(nodes, at) else {
+        return Built { root: at, used };
+    };
+    match shape {
+        Shape::Leaf { after: None, .. } => Built { root: at, used },
+        Shape::Leaf {
             block,
             length,
-            after,
+            after: Some(after),
         } => {
             let own = length.min(1);
             if upto <= own + 1 {
                 return lead_by(nodes, used, store, after, block, length);
             }
             let rest = remove(nodes, used, store, after, upto - own);
-            let next = write_leaf(nodes, rest.used, store, block, length, Some(rest.root));
-            Built {
-                root: rest.used,
-                used: next,
-            }
+            write_leaf(nodes, rest.used, store, block, length, Some(rest.root))
         }
-        View::Forked {
+        Shape::Fork {
             level,
             below,
             after,
@@ -176,21 +151,13 @@ pub(crate) fn remove<S: BlockStore, Q: Summary<Reading = S::Reading> + Copy>(
             let count = blocks_in(nodes, below);
             if upto <= count {
                 let part = remove(nodes, used, store, below, upto);
-                let next = write_fork(nodes, part.used, level, part.root, after);
-                return Built {
-                    root: part.used,
-                    used: next,
-                };
+                return write_fork(nodes, part.used, level, part.root, after);
             }
             if upto - count == 1 {
                 return merge(nodes, used, store, below, after);
             }
             let part = remove(nodes, used, store, after, upto - count);
-            let next = write_fork(nodes, part.used, level, below, part.root);
-            Built {
-                root: part.used,
-                used: next,
-            }
+            write_fork(nodes, part.used, level, below, part.root)
         }
     }
 }

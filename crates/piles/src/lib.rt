@@ -6,7 +6,7 @@ ghost use Rattle.piles.specs.Piles.{Piled};
 use store::BlockStore;
 
 // Layers to any depth over any store: the pile's list is the store's, and a row is refused exactly where no layer remembers it and the
-// store refuses it.
+// store refuses it. The store's list and refusals stand apart, as each layer takes them.
 pub fn pile_meaning<S: BlockStore>() -> u8
     ensures { Piled S.BlockStore.rows S.BlockStore.refuses }
 {
@@ -15,10 +15,9 @@ pub fn pile_meaning<S: BlockStore>() -> u8
 
 #[cfg(test)]
 mod tests {
-    use reading::{Count, Reading, Single};
+    use reading::{Count, Single};
     use sharing::Sharing;
     use std::process::Abort;
-    use std::test::Fail;
     use store::{BlockStore, Cause, FlashStore, RowStore};
 
     fn count(value: i16) -> Count {
@@ -39,42 +38,36 @@ mod tests {
         assert_eq!(rt; store.block_len(0), Some(1024));
         assert_eq!(rt; store.block_len(1), Some(6));
         assert_eq!(rt; store.block_len(2), None);
-        assert!(rt; store.reading(1, 6).is_none() && store.reading(2, 0).is_none());
+        assert_eq!(rt; store.reading(1, 6), None);
+        assert_eq!(rt; store.reading(2, 0), None);
     }
 
     // A thousand blocks in an area with room for one more reading.
-    fn thousand<S: BlockStore<Reading = Count> + Drop>(
-        rt: &impl Abort,
-        mut store: S,
-    ) -> Result<(), Fail> {
+    fn thousand<S: BlockStore<Reading = Count> + Drop>(rt: &impl Abort, mut store: S) {
         for k in 0..1000u32 {
             assert_eq!(rt; store.put(&[count((k % 999) as i16)]), Ok(k));
         }
         assert_eq!(rt; store.put(&[count(1)]), Err(Cause::BlocksFull));
         assert_eq!(rt; store.put(&[]), Err(Cause::RowLength));
         assert_eq!(rt; store.count(), 1000);
-        let Some(last) = store.reading(998, 0) else {
-            return Err(Fail::new("block 998"));
-        };
-        assert_eq!(rt; last.value, 998);
-        Ok(())
+        assert_eq!(rt; store.reading(998, 0), Some(count(998)));
     }
 
     #[test]
-    fn row_store_limits(rt: HostRuntime) -> Result<(), Fail> {
+    fn row_store_limits(rt: HostRuntime) {
         let mut area = [count(0); 1030];
         lengths(&rt, RowStore::new(&mut area));
         let mut area = [count(0); 1001];
-        thousand(&rt, RowStore::new(&mut area))
+        thousand(&rt, RowStore::new(&mut area));
     }
 
     // Two bytes a reading; the odd byte at the end is of no use.
     #[test]
-    fn flash_store_limits(rt: HostRuntime) -> Result<(), Fail> {
+    fn flash_store_limits(rt: HostRuntime) {
         let mut area = [0u8; 2061];
         lengths(&rt, FlashStore::new(&mut area));
         let mut area = [0u8; 2003];
-        thousand(&rt, FlashStore::new(&mut area))
+        thousand(&rt, FlashStore::new(&mut area));
     }
 
     // A layer over a layer: the upper one remembers row 0, which the lower one has forgotten after 32 others.
@@ -116,28 +109,24 @@ mod tests {
     }
 
     // +0 and −0 are two rows, though they rank alike; all patterns that are not a number are one.
-    fn zeros<S: BlockStore<Reading = Single> + Drop>(
-        rt: &impl Abort,
-        store: S,
-    ) -> Result<(), Fail> {
+    fn zeros<S: BlockStore<Reading = Single> + Drop>(rt: &impl Abort, store: S) {
         let mut pile = Sharing::new(Sharing::new(store));
         assert_eq!(rt; pile.put(&[Single::from_bits(0)]), Ok(0));
         assert_eq!(rt; pile.put(&[Single::from_bits(0x8000_0000)]), Ok(1));
         assert_eq!(rt; pile.put(&[Single::from_bits(0x7F80_0001)]), Ok(2));
         assert_eq!(rt; pile.put(&[Single::from_bits(0xFFFF_FFFF)]), Ok(2));
         assert_eq!(rt; pile.put(&[Single::from_bits(0)]), Ok(0));
-        let Some(minus) = pile.reading(1, 0) else {
-            return Err(Fail::new("block 1"));
-        };
-        assert_eq!(rt; minus.to_bits(), 0x8000_0000);
-        Ok(())
+        assert_eq!(rt;
+            pile.reading(1, 0).map(|minus| minus.to_bits()),
+            Some(0x8000_0000)
+        );
     }
 
     #[test]
-    fn zeros_are_not_shared(rt: HostRuntime) -> Result<(), Fail> {
+    fn zeros_are_not_shared(rt: HostRuntime) {
         let mut readings = [Single::from_bits(1); 3];
-        zeros(&rt, RowStore::new(&mut readings))?;
+        zeros(&rt, RowStore::new(&mut readings));
         let mut bytes = [0u8; 12];
-        zeros(&rt, FlashStore::new(&mut bytes))
+        zeros(&rt, FlashStore::new(&mut bytes));
     }
 }

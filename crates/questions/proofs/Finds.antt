@@ -1,6 +1,7 @@
 -- One step of a walk to the block that has a reading. Assumes nothing.
 use Rattle.std.proofs.Common.{◌≡◌, ℕ, zero, suc, ◌+◌, ◌-◌, ◌%◌, ◌^◌, ◌<◌, ◌≤◌, List, [], ◌∷◌, ◌++◌, map, length, get_or, Some, None, Option, sym, refl, ap, ◌∙◌, subst, ⊎_elim, arith, length-append, get_or-append-add}
 use Rattle.std.proofs.lemmas.List.{get_or_append_left}
+use Rattle.std.specs.Prelude.{IsSomeAnd, MatchOption}
 use Rattle.std.specs.List.{slice_get}
 use Rattle.std.proofs.lemmas.Bool.{lt-ltb, le-ltb, cond-true, cond-false, cases_lt}
 use Rattle.flexlist.specs.Shape.{Tree}
@@ -8,19 +9,30 @@ use Rattle.flexlist.specs.Shape as flat
 use Rattle.flexlist.specs.Nodes.{nodes, leaves, identities, to_place}
 use Rattle.summary.specs.Summing.{Summing}
 use Rattle.nodes.specs.declared.node.Node.{Node}
-use Rattle.nodes.specs.declared.view.View.TheVariants.{Nothing, Last, Followed, Forked}
+use Rattle.nodes.specs.declared.node.Shape.TheVariants.{Leaf, Fork}
 use Rattle.laid.specs.Laid.{Laid, last, leaf, fork, plain}
 use Rattle.nodes.specs.Holding.{Content}
-use Rattle.nodes.specs.Views.{seen}
+use Rattle.nodes.specs.Views.{seen, readings_in}
+use Rattle.nodes.proofs.Held.{leaves_some}
 use Rattle.questions.specs.declared.found.Found.{Found}
-use Rattle.questions.specs.Readings.{in_order, row_with, rows_of, readings_of, readings_in, Small}
+use Rattle.questions.specs.Readings.{in_order, row_with, rows_of, readings_of, Small}
 use Rattle.questions.specs.Finding.{block_at, FoundAt, FoundIn, farther, Finds}
 use Rattle.questions.proofs.Held.{at_nothing, at_last, at_leaf, at_fork}
-use Rattle.questions.proofs.Counts.{leaves_some, nodes_few}
+use Rattle.questions.proofs.Counts.{nodes_few}
 use Rattle.questions.proofs.Ways.{nodes_below, nodes_after}
 use Rattle.questions.proofs.Readings.{readings_last, readings_leaf, readings_fork, rows_fork, count_last, count_leaf, count_fork, small_next, small_below, small_after, readings_counted}
 
 -- ---- positions in one list after another
+
+-- one node further from the root, where there is a block
+abbrev pub farther_if : Option Found → Option Found
+farther_if None = None
+farther_if (Some f) = Some (farther f)
+
+pub farther_is : (q r : Option Found) → MatchOption q (r ≡ None) (λ f. IsSomeAnd r (λ g. g ≡ farther f)) → r ≡ farther_if q
+farther_is None r h = h
+farther_is (Some f) None h = absurd h
+farther_is (Some f) (Some g) h = ap Some h
 
 module _ {A : Type 0} where
   pub nth_left : (xs ys : List A) (i : ℕ) → i < length xs → slice_get (xs ++ ys) i ≡ slice_get xs i
@@ -99,7 +111,7 @@ module _ {R : Type 0} (c : ℕ → Content R) where
     path = refl;
   })
 
-  found_on : (e a p l : ℕ) (t : Laid) (q : Option Found) → Small c (leaf e a t) → l ≡ length (c a).row → l ≤ p → FoundIn c t (p - l) q → FoundIn c (leaf e a t) p (farther q)
+  found_on : (e a p l : ℕ) (t : Laid) (q : Option Found) → Small c (leaf e a t) → l ≡ length (c a).row → l ≤ p → FoundIn c t (p - l) q → FoundIn c (leaf e a t) p (farther_if q)
   unfolding nodes to_place leaves
   found_on e a p l t None k i h f = omega (arith, count_leaf c e a t)
   found_on e a p l t (Some g) k i h f =
@@ -116,7 +128,7 @@ module _ {R : Type 0} (c : ℕ → Content R) where
         path = omega (arith, nodes_few (to_place (plain t) r));
       })
 
-  found_below : (e m p : ℕ) (x y : Laid) (q : Option Found) → Small c (fork e m x y) → p < length (readings_of c x) → FoundIn c x p q → FoundIn c (fork e m x y) p (farther q)
+  found_below : (e m p : ℕ) (x y : Laid) (q : Option Found) → Small c (fork e m x y) → p < length (readings_of c x) → FoundIn c x p q → FoundIn c (fork e m x y) p (farther_if q)
   unfolding leaves readings_of
   found_below e m p x y None k h f = absurd (omega arith)
   found_below e m p x y (Some g) k h f =
@@ -135,7 +147,7 @@ module _ {R : Type 0} (c : ℕ → Content R) where
         path = omega (arith, nodes_few (to_place (plain x) r), leaves_some (plain y), way);
       })
 
-  found_after : (e m p : ℕ) (x y : Laid) (q : Option Found) → Small c (fork e m x y) → length (readings_of c x) ≤ p → FoundIn c y (p - length (readings_of c x)) q → FoundIn c (fork e m x y) p (farther q)
+  found_after : (e m p : ℕ) (x y : Laid) (q : Option Found) → Small c (fork e m x y) → length (readings_of c x) ≤ p → FoundIn c y (p - length (readings_of c x)) q → FoundIn c (fork e m x y) p (farther_if q)
   unfolding leaves readings_of
   found_after e m p x y None k h f = omega (arith, count_fork c e m x y)
   found_after e m p x y (Some g) k h f =
@@ -164,31 +176,29 @@ module _ {R Q : Type 0} (s : Summing R Q) (table : List (Node Q)) (at position :
   abbrev Said : (ℕ → Content R) → Option Found → Laid → Type 0
   Said c r t = Small c t → FoundIn c t position r
 
-  pub find_nothing : Nothing ≡ seen at (slice_get table at) → Finds s table at position None
+  pub find_nothing : None ≡ seen at (slice_get table at) → Finds s table at position None
   find_nothing v c t h = at_nothing s c table (Said c None) at v t h
 
-  pub find_last : (b l : ℕ) → Last b l ≡ seen at (slice_get table at) → position < l → Finds s table at position (Some (record { block = b; place = position; path = 1 }))
-  find_last b l v u c t h = at_last s c table (Said c (Some (record { block = b; place = position; path = 1 }))) at b l v (λ e a p q k. found_last c e a b position p (omega arith)) t h
-
-  pub find_past : (b l : ℕ) → Last b l ≡ seen at (slice_get table at) → l ≤ position → Finds s table at position None
+  pub find_past : (b l : ℕ) → Some (Leaf b l None) ≡ seen at (slice_get table at) → l ≤ position → Finds s table at position None
   find_past b l v u c t h = at_last s c table (Said c None) at b l v (λ e a p q k. omega (arith, count_last c e a)) t h
 
-  pub find_here : (b l n : ℕ) → Followed b l n ≡ seen at (slice_get table at) → position < l → Finds s table at position (Some (record { block = b; place = position; path = 1 }))
-  find_here b l n v u c t h = at_leaf s c table (Said c (Some (record { block = b; place = position; path = 1 }))) at b l n v (λ e a t' p q g k. found_leaf c e a b position t' p (omega arith)) t h
+  pub find_here : (b l : ℕ) (j : Option ℕ) → Some (Leaf b l j) ≡ seen at (slice_get table at) → position < l → Finds s table at position (Some (record { block = b; place = position; path = 1 }))
+  find_here b l None v u c t h = at_last s c table (Said c (Some (record { block = b; place = position; path = 1 }))) at b l v (λ e a p q k. found_last c e a b position p (omega arith)) t h
+  find_here b l (Some n) v u c t h = at_leaf s c table (Said c (Some (record { block = b; place = position; path = 1 }))) at b l n v (λ e a t' p q g k. found_leaf c e a b position t' p (omega arith)) t h
 
-  pub find_on : (b l n : ℕ) (q r : Option Found) → Followed b l n ≡ seen at (slice_get table at) → l ≤ position → Finds s table n (position - l) q → r ≡ farther q → Finds s table at position r
+  pub find_on : (b l n : ℕ) (q r : Option Found) → Some (Leaf b l (Some n)) ≡ seen at (slice_get table at) → l ≤ position → Finds s table n (position - l) q → r ≡ farther_if q → Finds s table at position r
   find_on b l n q r v u w f c t h =
       at_leaf s c table (Said c r) at b l n v (λ e a t' p d g k. subst (FoundIn c (leaf e a t') position) (sym f) (found_on c e a position l t' q k d u (w c t' g (small_next c e a t' k)))) t h
 
-  pub find_below : (m b n left : ℕ) (q r : Option Found) → Forked m b n ≡ seen at (slice_get table at) → left ≡ readings_in (slice_get table b) → position < left →
-      Finds s table b position q → r ≡ farther q → Finds s table at position r
+  pub find_below : (m b n left : ℕ) (q r : Option Found) → Some (Fork m b n) ≡ seen at (slice_get table at) → left ≡ readings_in (slice_get table b) → position < left →
+      Finds s table b position q → r ≡ farther_if q → Finds s table at position r
   find_below m b n left q r v o u w f c t h =
       at_fork s c table (Said c r) at m b n v (λ e x y i j k.
       let count = readings_counted s c table b left x i (small_below c e m x y k) o in
       subst (FoundIn c (fork e m x y) position) (sym f) (found_below c e m position x y q k (omega arith) (w c x i (small_below c e m x y k)))) t h
 
-  pub find_after : (m b n left : ℕ) (q r : Option Found) → Forked m b n ≡ seen at (slice_get table at) → left ≡ readings_in (slice_get table b) → left ≤ position →
-      Finds s table n (position - left) q → r ≡ farther q → Finds s table at position r
+  pub find_after : (m b n left : ℕ) (q r : Option Found) → Some (Fork m b n) ≡ seen at (slice_get table at) → left ≡ readings_in (slice_get table b) → left ≤ position →
+      Finds s table n (position - left) q → r ≡ farther_if q → Finds s table at position r
   find_after m b n left q r v o u w f c t h =
       at_fork s c table (Said c r) at m b n v (λ e x y i j k.
       let count = readings_counted s c table b left x i (small_below c e m x y k) o in

@@ -7,25 +7,32 @@ use Rattle.flexlist.specs.Nodes.{nodes, nodes_of_both, leaves, to_place}
 use Rattle.flexlist.proofs.Places.{to_place_below, to_place_after}
 use Rattle.summary.specs.Summing.{Summing}
 use Rattle.nodes.specs.declared.node.Node.{Node}
-use Rattle.nodes.specs.declared.view.View.TheVariants.{Nothing, Last, Followed, Forked}
+use Rattle.nodes.specs.declared.node.Shape.TheVariants.{Leaf, Fork}
 use Rattle.laid.specs.Laid.{Laid, leaf, plain}
 use Rattle.nodes.specs.Holding.{Content, Counted}
 use Rattle.nodes.specs.Views.{seen, blocks_in}
 use Rattle.nodes.specs.Walking.{CountedTo}
+use Rattle.nodes.proofs.Held.{leaves_some, counted_leaf, counted_below, counted_after}
 use Rattle.questions.specs.Readings.{Stands}
-use Rattle.questions.specs.Paths.{one_more, two_and_fork, PathCounted, PathsCounted}
+use Rattle.questions.specs.Paths.{PathCounted, PathsCounted}
 use Rattle.questions.proofs.Held.{at_nothing, at_last, at_leaf, at_fork}
-use Rattle.questions.proofs.Counts.{leaves_some, nodes_few, both_few, blocks_counted, counted_next, counted_below, counted_after}
-use Rattle.questions.proofs.Ways.{one_more_is}
+use Rattle.questions.proofs.Counts.{nodes_few, both_few, blocks_counted}
+use Rattle.questions.proofs.Ways.{one_more_if, one_more_is}
 
 -- the nodes of both paths to neighbours
 both : Tree → ℕ → ℕ
 both t p = nodes_of_both (to_place t p) (to_place t (suc p))
 
-two_are : (q k r : Option ℕ) (m n l : ℕ) → r ≡ two_and_fork q k → q ≡ Some m → k ≡ Some n → l ≡ suc (m + n) → l < 2 ^ 32 → r ≡ Some l
+-- the nodes of two paths that part at a fork, and the fork, where there are both
+abbrev pub two_and_fork_if : Option ℕ → Option ℕ → Option ℕ
+two_and_fork_if None q = None
+two_and_fork_if (Some m) None = None
+two_and_fork_if (Some m) (Some n) = Some ((m + n + 1) % 2 ^ 32)
+
+two_are : (q k r : Option ℕ) (m n l : ℕ) → r ≡ two_and_fork_if q k → q ≡ Some m → k ≡ Some n → l ≡ suc (m + n) → l < 2 ^ 32 → r ≡ Some l
 two_are q k r m n l e f g i h =
-    let whole : ((m + n) % 2 ^ 32 + 1) % 2 ^ 32 ≡ l = omega arith in
-    e ∙ ap₂ two_and_fork f g ∙ ap Some whole
+    let whole : (m + n + 1) % 2 ^ 32 ≡ l = omega arith in
+    e ∙ ap₂ two_and_fork_if f g ∙ ap Some whole
 
 module _ (m : ℕ) (x y : Tree) where
   both_below : (p : ℕ) → suc p < leaves x → both (flat.Tree.fork m x y) p ≡ suc (both x p)
@@ -45,76 +52,88 @@ module _ {R Q : Type 0} (s : Summing R Q) (table : List (Node Q)) (at upto : ℕ
   abbrev Said : (ℕ → Content R) → ℕ → Option ℕ → Laid → Type 0
   Said c place r t = Counted c t → leaves (plain t) + 1 < 2 ^ 32 → CountedTo c t (suc place) upto → r ≡ Some (nodes_of_both (to_place (plain t) place) (to_place (plain t) (suc place)))
 
-  pub both_nothing : Nothing ≡ seen at (slice_get table at) → PathsCounted s table at upto None
+  pub both_nothing : None ≡ seen at (slice_get table at) → PathsCounted s table at upto None
   both_nothing v c t place h = at_nothing s c table (Said c place None) at v t h
 
-  pub both_last : (b l : ℕ) → Last b l ≡ seen at (slice_get table at) → PathsCounted s table at upto None
+  pub both_last : (b l : ℕ) → Some (Leaf b l None) ≡ seen at (slice_get table at) → PathsCounted s table at upto None
   unfolding leaves
   both_last b l v c t place h = at_last s c table (Said c place None) at b l v (λ e a p q k f n. let in' = n.0 in absurd (omega arith)) t h
 
   stop_here : (c : ℕ → Content R) (e a n : ℕ) (t : Laid) (place own : ℕ) (q r : Option ℕ) → own ≡ min (length (c a).row) 1 → upto ≤ own + 1 → Stands s c table n t →
-      PathCounted s table n 1 q → r ≡ one_more q → Said c place r (leaf e a t)
+      PathCounted s table n 1 q → r ≡ one_more_if q → Said c place r (leaf e a t)
   unfolding nodes_of_both to_place leaves
   stop_here c e a n t zero own q r o u g w e' k f c' =
       let one = k.solid.0 in
-      one_more_is q r _ _ e' (w c t 0 g (counted_next s c e a t k) (omega (arith, leaves_some (plain t)), omega arith)) refl (omega (arith, nodes_few (to_place (plain t) 0)))
+      one_more_is q r _ _ e' (w c t 0 g (counted_leaf c k) (omega (arith, leaves_some (plain t)), omega arith)) refl (omega (arith, nodes_few (to_place (plain t) 0)))
   stop_here c e a n t (suc place) own q r o u g w e' k f c' = let to = c'.1 in absurd (omega arith)
 
-  pub both_stop : (b l n own : ℕ) (q r : Option ℕ) → Followed b l n ≡ seen at (slice_get table at) → own ≡ min l 1 → upto ≤ own + 1 →
-      PathCounted s table n 1 q → r ≡ one_more q → PathsCounted s table at upto r
+  pub both_stop : (b l n own : ℕ) (q r : Option ℕ) → Some (Leaf b l (Some n)) ≡ seen at (slice_get table at) → own ≡ min l 1 → upto ≤ own + 1 →
+      PathCounted s table n 1 q → r ≡ one_more_if q → PathsCounted s table at upto r
   both_stop b l n own q r v o u w f c t place h =
       at_leaf s c table (Said c place r) at b l n v (λ e a t' p d g. stop_here c e a n t' place own q r (o ∙ ap (λ k. min k 1) d) u g w f) t h
 
   go_on : (c : ℕ → Content R) (e a n : ℕ) (t : Laid) (place own : ℕ) (q r : Option ℕ) → own ≡ min (length (c a).row) 1 → own + 1 < upto → Stands s c table n t →
-      PathsCounted s table n (upto - own) q → r ≡ one_more q → Said c place r (leaf e a t)
+      PathsCounted s table n (upto - own) q → r ≡ one_more_if q → Said c place r (leaf e a t)
   unfolding nodes_of_both to_place leaves
   go_on c e a n t zero own q r o u g w e' k f c' = let to = c'.1 in absurd (omega arith)
   go_on c e a n t (suc place) own q r o u g w e' k f c' =
       let to = c'.1 in
       let in' = c'.0 in
       let one = k.solid.0 in
-      one_more_is q r _ _ e' (w c t place g (counted_next s c e a t k) (omega arith) (omega arith, omega arith)) refl (omega (arith, both_few (to_place (plain t) place) (to_place (plain t) (suc place))))
+      one_more_is q r _ _ e' (w c t place g (counted_leaf c k) (omega arith) (omega arith, omega arith)) refl (omega (arith, both_few (to_place (plain t) place) (to_place (plain t) (suc place))))
 
-  pub both_on : (b l n own : ℕ) (q r : Option ℕ) → Followed b l n ≡ seen at (slice_get table at) → own ≡ min l 1 → own + 1 < upto →
-      PathsCounted s table n (upto - own) q → r ≡ one_more q → PathsCounted s table at upto r
+  pub both_on : (b l n own : ℕ) (q r : Option ℕ) → Some (Leaf b l (Some n)) ≡ seen at (slice_get table at) → own ≡ min l 1 → own + 1 < upto →
+      PathsCounted s table n (upto - own) q → r ≡ one_more_if q → PathsCounted s table at upto r
   both_on b l n own q r v o u w f c t place h =
       at_leaf s c table (Said c place r) at b l n v (λ e a t' p d g. go_on c e a n t' place own q r (o ∙ ap (λ k. min k 1) d) u g w f) t h
 
-  pub both_in_below : (m b n left : ℕ) (q r : Option ℕ) → Forked m b n ≡ seen at (slice_get table at) → left ≡ blocks_in (slice_get table b) → upto ≤ left →
-      PathsCounted s table b upto q → r ≡ one_more q → PathsCounted s table at upto r
+  pub both_in_below : (m b n left : ℕ) (q r : Option ℕ) → Some (Fork m b n) ≡ seen at (slice_get table at) → left ≡ blocks_in (slice_get table b) → upto ≤ left →
+      PathsCounted s table b upto q → r ≡ one_more_if q → PathsCounted s table at upto r
   unfolding leaves both
   both_in_below m b n left q r v o u w f c t place h =
       at_fork s c table (Said c place r) at m b n v (λ e x y i j k few c'.
-      let count = blocks_counted s c table b left x i (counted_below s c e m x y k) o in
+      let count = blocks_counted s c table b left x i (counted_below c k) o in
       let to = c'.1 in
       let there : suc place < leaves (plain x) = omega arith in
       let same = both_below m (plain x) (plain y) place there in
-      one_more_is q r _ _ f (w c x place i (counted_below s c e m x y k) (omega arith) (there, to)) same
+      one_more_is q r _ _ f (w c x place i (counted_below c k) (omega arith) (there, to)) same
       (omega (arith, same, both_few (to_place (plain x) place) (to_place (plain x) (suc place)), leaves_some (plain y)))) t h
 
-  pub both_at_fork : (m b n left : ℕ) (q p r : Option ℕ) → Forked m b n ≡ seen at (slice_get table at) → left ≡ blocks_in (slice_get table b) → upto ≡ left + 1 →
-      PathCounted s table b left q → PathCounted s table n 1 p → r ≡ two_and_fork q p → PathsCounted s table at upto r
+  pub both_at_fork : (m b n left : ℕ) (q p r : Option ℕ) → Some (Fork m b n) ≡ seen at (slice_get table at) → left ≡ blocks_in (slice_get table b) → upto ≡ left + 1 →
+      PathCounted s table b left q → PathCounted s table n 1 p → r ≡ two_and_fork_if q p → PathsCounted s table at upto r
   unfolding leaves both
   both_at_fork m b n left q p r v o u w w' f c t place h =
       at_fork s c table (Said c place r) at m b n v (λ e x y i j k few c'.
-      let count = blocks_counted s c table b left x i (counted_below s c e m x y k) o in
+      let count = blocks_counted s c table b left x i (counted_below c k) o in
       let one = k.solid.1 in
       let to = c'.1 in
       let there : suc place ≡ leaves (plain x) = omega arith in
       let same = both_between m (plain x) (plain y) place there in
-      two_are q p r _ _ _ f (w c x place i (counted_below s c e m x y k) (omega arith, omega arith)) (w' c y 0 j (counted_after s c e m x y k) (omega (arith, leaves_some (plain y)), omega arith)) same
+      two_are q p r _ _ _ f (w c x place i (counted_below c k) (omega arith, omega arith)) (w' c y 0 j (counted_after c k) (omega (arith, leaves_some (plain y)), omega arith)) same
       (omega (arith, same, nodes_few (to_place (plain x) place), nodes_few (to_place (plain y) 0)))) t h
 
-  pub both_in_after : (m b n left : ℕ) (q r : Option ℕ) → Forked m b n ≡ seen at (slice_get table at) → left ≡ blocks_in (slice_get table b) → left + 1 < upto →
-      PathsCounted s table n (upto - left) q → r ≡ one_more q → PathsCounted s table at upto r
+  pub both_lost : (m b n left : ℕ) → Some (Fork m b n) ≡ seen at (slice_get table at) → left ≡ blocks_in (slice_get table b) → upto ≡ left + 1 →
+      PathCounted s table b left None → PathsCounted s table at upto None
+  unfolding leaves
+  both_lost m b n left v o u w c t place h =
+      at_fork s c table (Said c place None) at m b n v (λ e x y i j k few c'.
+      let count = blocks_counted s c table b left x i (counted_below c k) o in
+      let one = k.solid.1 in
+      let to = c'.1 in
+      let way = w c x place i (counted_below c k) (omega arith, omega arith) in
+      let z : ◌≡◌ {A = ℕ} 0 1 = cc in
+      absurd (omega arith)) t h
+
+  pub both_in_after : (m b n left : ℕ) (q r : Option ℕ) → Some (Fork m b n) ≡ seen at (slice_get table at) → left ≡ blocks_in (slice_get table b) → left + 1 < upto →
+      PathsCounted s table n (upto - left) q → r ≡ one_more_if q → PathsCounted s table at upto r
   unfolding leaves both
   both_in_after m b n left q r v o u w f c t place h =
       at_fork s c table (Said c place r) at m b n v (λ e x y i j k few c'.
       let one = k.solid.1 in
-      let count = blocks_counted s c table b left x i (counted_below s c e m x y k) o in
+      let count = blocks_counted s c table b left x i (counted_below c k) o in
       let to = c'.1 in
       let in' = c'.0 in
       let over : place ≡ leaves (plain x) + (place - leaves (plain x)) = omega arith in
       let past = both_after m (plain x) (plain y) place (place - leaves (plain x)) over in
-      one_more_is q r _ _ f (w c y (place - leaves (plain x)) j (counted_after s c e m x y k) (omega arith) (omega arith, omega arith)) past
+      one_more_is q r _ _ f (w c y (place - leaves (plain x)) j (counted_after c k) (omega arith) (omega arith, omega arith)) past
       (omega (arith, past, both_few (to_place (plain y) (place - leaves (plain x))) (to_place (plain y) (suc (place - leaves (plain x)))), leaves_some (plain x)))) t h

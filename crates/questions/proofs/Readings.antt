@@ -10,7 +10,8 @@ use Rattle.summary.proofs.Rows.{cut_anywhere}
 use Rattle.nodes.specs.declared.node.Node.{Node}
 use Rattle.laid.specs.Laid.{Laid, last, leaf, fork, plain}
 use Rattle.nodes.specs.Holding.{Content, node_of}
-use Rattle.questions.specs.Readings.{in_order, rows_of, readings_of, readings_in, Small, Stands}
+use Rattle.nodes.specs.Views.{readings_in}
+use Rattle.questions.specs.Readings.{in_order, rows_of, readings_of, Small, Stands}
 use Rattle.questions.proofs.Held.{stands_node}
 
 in_order_append : {R : Type 0} (xs ys : List (List R)) → in_order (xs ++ ys) ≡ in_order xs ++ in_order ys

@@ -1,5 +1,6 @@
 -- One step of a walk that counts the nodes of a path. Assumes nothing.
 use Rattle.std.proofs.Common.{◌≡◌, ℕ, zero, suc, ◌+◌, ◌-◌, ◌%◌, ◌^◌, ◌<◌, ◌≤◌, min, List, length, Some, None, Option, refl, ap, ◌∙◌, arith}
+use Rattle.std.specs.Prelude.{IsSomeAnd, MatchOption}
 use Rattle.std.specs.List.{slice_get}
 use Rattle.flexlist.specs.Shape.{Tree}
 use Rattle.flexlist.specs.Shape as flat
@@ -7,21 +8,31 @@ use Rattle.flexlist.specs.Nodes.{nodes, leaves, to_place}
 use Rattle.flexlist.proofs.Places.{to_place_below, to_place_after}
 use Rattle.summary.specs.Summing.{Summing}
 use Rattle.nodes.specs.declared.node.Node.{Node}
-use Rattle.nodes.specs.declared.view.View.TheVariants.{Nothing, Last, Followed, Forked}
+use Rattle.nodes.specs.declared.node.Shape.TheVariants.{Leaf, Fork}
 use Rattle.laid.specs.Laid.{Laid, leaf, plain}
 use Rattle.nodes.specs.Holding.{Content, Counted}
 use Rattle.nodes.specs.Views.{seen, blocks_in}
 use Rattle.nodes.specs.Walking.{CountedTo}
+use Rattle.nodes.proofs.Held.{leaves_some, counted_leaf, counted_below, counted_after}
 use Rattle.questions.specs.Readings.{Stands}
-use Rattle.questions.specs.Paths.{one_more, PathCounted}
+use Rattle.questions.specs.Paths.{PathCounted}
 use Rattle.questions.proofs.Held.{at_nothing, at_last, at_leaf, at_fork}
-use Rattle.questions.proofs.Counts.{leaves_some, nodes_few, blocks_counted, counted_next, counted_below, counted_after}
+use Rattle.questions.proofs.Counts.{nodes_few, blocks_counted}
 
--- one node more
-pub one_more_is : (q r : Option ℕ) (n m : ℕ) → r ≡ one_more q → q ≡ Some n → m ≡ suc n → m < 2 ^ 32 → r ≡ Some m
+-- one node more on a path, where there is one
+abbrev pub one_more_if : Option ℕ → Option ℕ
+one_more_if None = None
+one_more_if (Some n) = Some ((n + 1) % 2 ^ 32)
+
+pub more_is : (q r : Option ℕ) → MatchOption q (r ≡ None) (λ n. IsSomeAnd r (λ m. m ≡ (n + 1) % 2 ^ 32)) → r ≡ one_more_if q
+more_is None r h = h
+more_is (Some n) None h = absurd h
+more_is (Some n) (Some m) h = ap Some h
+
+pub one_more_is : (q r : Option ℕ) (n m : ℕ) → r ≡ one_more_if q → q ≡ Some n → m ≡ suc n → m < 2 ^ 32 → r ≡ Some m
 one_more_is q r n m e f g h =
     let whole : (n + 1) % 2 ^ 32 ≡ m = omega arith in
-    e ∙ ap one_more f ∙ ap Some whole
+    e ∙ ap one_more_if f ∙ ap Some whole
 
 module _ (m : ℕ) (x y : Tree) where
   pub nodes_below : (p : ℕ) → p < leaves x → nodes (to_place (flat.Tree.fork m x y) p) ≡ suc (nodes (to_place x p))
@@ -37,10 +48,10 @@ module _ {R Q : Type 0} (s : Summing R Q) (table : List (Node Q)) (at upto : ℕ
   abbrev Said : (ℕ → Content R) → ℕ → Option ℕ → Laid → Type 0
   Said c place r t = Counted c t → CountedTo c t place upto → r ≡ Some (nodes (to_place (plain t) place))
 
-  pub path_nothing : Nothing ≡ seen at (slice_get table at) → PathCounted s table at upto None
+  pub path_nothing : None ≡ seen at (slice_get table at) → PathCounted s table at upto None
   path_nothing v c t place h = at_nothing s c table (Said c place None) at v t h
 
-  pub path_last : (b l : ℕ) → Last b l ≡ seen at (slice_get table at) → PathCounted s table at upto (Some 1)
+  pub path_last : (b l : ℕ) → Some (Leaf b l None) ≡ seen at (slice_get table at) → PathCounted s table at upto (Some 1)
   unfolding nodes to_place
   path_last b l v c t place h = at_last s c table (Said c place (Some 1)) at b l v (λ e a p q k n. refl) t h
 
@@ -49,12 +60,12 @@ module _ {R Q : Type 0} (s : Summing R Q) (table : List (Node Q)) (at upto : ℕ
   stop_here c e a t zero own o u k n = refl
   stop_here c e a t (suc place) own o u k n = let to = n.1 in absurd (omega arith)
 
-  pub path_stop : (b l n own : ℕ) → Followed b l n ≡ seen at (slice_get table at) → own ≡ min l 1 → upto ≤ own → PathCounted s table at upto (Some 1)
+  pub path_stop : (b l n own : ℕ) → Some (Leaf b l (Some n)) ≡ seen at (slice_get table at) → own ≡ min l 1 → upto ≤ own → PathCounted s table at upto (Some 1)
   path_stop b l n own v o u c t place h =
       at_leaf s c table (Said c place (Some 1)) at b l n v (λ e a t' p q g. stop_here c e a t' place own (o ∙ ap (λ k. min k 1) q) u) t h
 
   go_on : (c : ℕ → Content R) (e a n : ℕ) (t : Laid) (place own : ℕ) (q r : Option ℕ) → own ≡ min (length (c a).row) 1 → own < upto → Stands s c table n t →
-      PathCounted s table n (upto - own) q → r ≡ one_more q → Said c place r (leaf e a t)
+      PathCounted s table n (upto - own) q → r ≡ one_more_if q → Said c place r (leaf e a t)
   unfolding nodes to_place leaves
   go_on c e a n t zero own q r o u g w e' k c' = let to = c'.1 in absurd (omega arith)
   go_on c e a n t (suc place) own q r o u g w e' k c' =
@@ -62,36 +73,36 @@ module _ {R Q : Type 0} (s : Summing R Q) (table : List (Node Q)) (at upto : ℕ
       let in' = c'.0 in
       let one = k.solid.0 in
       let few = k.few in
-      one_more_is q r _ _ e' (w c t place g (counted_next s c e a t k) (omega arith, omega arith)) refl (omega (arith, nodes_few (to_place (plain t) place)))
+      one_more_is q r _ _ e' (w c t place g (counted_leaf c k) (omega arith, omega arith)) refl (omega (arith, nodes_few (to_place (plain t) place)))
 
-  pub path_on : (b l n own : ℕ) (q r : Option ℕ) → Followed b l n ≡ seen at (slice_get table at) → own ≡ min l 1 → own < upto →
-      PathCounted s table n (upto - own) q → r ≡ one_more q → PathCounted s table at upto r
+  pub path_on : (b l n own : ℕ) (q r : Option ℕ) → Some (Leaf b l (Some n)) ≡ seen at (slice_get table at) → own ≡ min l 1 → own < upto →
+      PathCounted s table n (upto - own) q → r ≡ one_more_if q → PathCounted s table at upto r
   path_on b l n own q r v o u w f c t place h =
       at_leaf s c table (Said c place r) at b l n v (λ e a t' p d g. go_on c e a n t' place own q r (o ∙ ap (λ k. min k 1) d) u g w f) t h
 
-  pub path_below : (m b n left : ℕ) (q r : Option ℕ) → Forked m b n ≡ seen at (slice_get table at) → left ≡ blocks_in (slice_get table b) → upto ≤ left →
-      PathCounted s table b upto q → r ≡ one_more q → PathCounted s table at upto r
+  pub path_below : (m b n left : ℕ) (q r : Option ℕ) → Some (Fork m b n) ≡ seen at (slice_get table at) → left ≡ blocks_in (slice_get table b) → upto ≤ left →
+      PathCounted s table b upto q → r ≡ one_more_if q → PathCounted s table at upto r
   unfolding leaves
   path_below m b n left q r v o u w f c t place h =
       at_fork s c table (Said c place r) at m b n v (λ e x y i j k c'.
       let few = k.few in
-      let count = blocks_counted s c table b left x i (counted_below s c e m x y k) o in
+      let count = blocks_counted s c table b left x i (counted_below c k) o in
       let to = c'.1 in
       let there : place < leaves (plain x) = omega arith in
-      one_more_is q r _ _ f (w c x place i (counted_below s c e m x y k) (there, to)) (nodes_below m (plain x) (plain y) place there)
+      one_more_is q r _ _ f (w c x place i (counted_below c k) (there, to)) (nodes_below m (plain x) (plain y) place there)
       (omega (arith, nodes_below m (plain x) (plain y) place there, nodes_few (to_place (plain x) place), leaves_some (plain y)))) t h
 
-  pub path_after : (m b n left : ℕ) (q r : Option ℕ) → Forked m b n ≡ seen at (slice_get table at) → left ≡ blocks_in (slice_get table b) → left < upto →
-      PathCounted s table n (upto - left) q → r ≡ one_more q → PathCounted s table at upto r
+  pub path_after : (m b n left : ℕ) (q r : Option ℕ) → Some (Fork m b n) ≡ seen at (slice_get table at) → left ≡ blocks_in (slice_get table b) → left < upto →
+      PathCounted s table n (upto - left) q → r ≡ one_more_if q → PathCounted s table at upto r
   unfolding leaves
   path_after m b n left q r v o u w f c t place h =
       at_fork s c table (Said c place r) at m b n v (λ e x y i j k c'.
       let few = k.few in
       let one = k.solid.1 in
-      let count = blocks_counted s c table b left x i (counted_below s c e m x y k) o in
+      let count = blocks_counted s c table b left x i (counted_below c k) o in
       let to = c'.1 in
       let in' = c'.0 in
       let over : place ≡ leaves (plain x) + (place - leaves (plain x)) = omega arith in
       let past = nodes_after m (plain x) (plain y) place (place - leaves (plain x)) over in
-      one_more_is q r _ _ f (w c y (place - leaves (plain x)) j (counted_after s c e m x y k) (omega arith, omega arith)) past
+      one_more_is q r _ _ f (w c y (place - leaves (plain x)) j (counted_after c k) (omega arith, omega arith)) past
       (omega (arith, past, nodes_few (to_place (plain y) (place - leaves (plain x))), leaves_some (plain x)))) t h

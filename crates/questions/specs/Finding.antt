@@ -29,9 +29,8 @@ FoundIn c t position None = length (readings_of c t) ≤ position
 FoundIn c t position (Some f) = FoundAt c t position f (row_with (rows_of c t) position)
 
 -- one node further from the root
-abbrev pub farther : Option Found → Option Found
-farther None = None
-farther (Some f) = Some (record { block = f.block; place = f.place; path = (f.path + 1) % 2 ^ 32 })
+abbrev pub farther : Found → Found
+farther f = record { block = f.block; place = f.place; path = (f.path + 1) % 2 ^ 32 }
 
 abbrev pub Finds : {R Q : Type 0} → Summing R Q → List (Node Q) → ℕ → ℕ → Option Found → Type 0
 Finds {R} s table at position r = (c : ℕ → Content R) (t : Laid) → Stands s c table at t → Small c t → FoundIn c t position r

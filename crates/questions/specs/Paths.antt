@@ -1,5 +1,5 @@
 -- What counting the nodes of paths answers. Assumes nothing.
-use Rattle.std.specs.Prelude.{◌≡◌, ℕ, suc, ◌+◌, ◌%◌, ◌^◌, ◌<◌, List, Some, None, Option}
+use Rattle.std.specs.Prelude.{◌≡◌, ℕ, suc, ◌+◌, ◌^◌, ◌<◌, List, Some, Option}
 use Rattle.flexlist.specs.Nodes.{nodes, nodes_of_both, leaves, to_place}
 use Rattle.summary.specs.Summing.{Summing}
 use Rattle.nodes.specs.declared.node.Node.{Node}
@@ -8,22 +8,11 @@ use Rattle.nodes.specs.Holding.{Content, Counted}
 use Rattle.nodes.specs.Walking.{CountedTo}
 use Rattle.questions.specs.Readings.{Stands}
 
--- one node more on a path
-abbrev pub one_more : Option ℕ → Option ℕ
-one_more None = None
-one_more (Some n) = Some ((n + 1) % 2 ^ 32)
-
 -- The path to the block to which `upto` blocks lead, in every tree that the table holds there.
 abbrev pub PathCounted : {R Q : Type 0} → Summing R Q → List (Node Q) → ℕ → ℕ → Option ℕ → Type 0
 PathCounted {R} s table at upto r =
     (c : ℕ → Content R) (t : Laid) (place : ℕ) → Stands s c table at t → Counted c t → CountedTo c t place upto →
     r ≡ Some (nodes (to_place (plain t) place))
-
--- two paths that part at a fork
-abbrev pub two_and_fork : Option ℕ → Option ℕ → Option ℕ
-two_and_fork None q = None
-two_and_fork (Some m) None = None
-two_and_fork (Some m) (Some n) = Some (((m + n) % 2 ^ 32 + 1) % 2 ^ 32)
 
 -- The paths to that block and to the one before it, shared nodes counted once.
 abbrev pub PathsCounted : {R Q : Type 0} → Summing R Q → List (Node Q) → ℕ → ℕ → Option ℕ → Type 0

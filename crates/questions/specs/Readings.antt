@@ -1,5 +1,5 @@
 -- The readings of a version's tree, in order. Assumes nothing.
-use Rattle.std.specs.Prelude.{◌≡◌, ℕ, suc, ◌-◌, ◌^◌, ◌<◌, cond, List, [], ◌∷◌, ◌++◌, map, length, Some, None, Option, nat_lt}
+use Rattle.std.specs.Prelude.{◌≡◌, ℕ, suc, ◌-◌, ◌^◌, ◌<◌, cond, List, [], ◌∷◌, ◌++◌, map, length, nat_lt}
 use Rattle.flexlist.specs.Nodes.{identities, leaves}
 use Rattle.summary.specs.Summing.{Summing}
 use Rattle.nodes.specs.declared.node.Node.{Node}
@@ -32,8 +32,3 @@ pub record Stands {R Q : Type 0} (s : Summing R Q) (c : ℕ → Content R) (tabl
 pub record Small {R : Type 0} (c : ℕ → Content R) (t : Laid) : Type 0 where
   pub few : leaves (plain t) < 2 ^ 32
   pub short : length (readings_of c t) < 2 ^ 32
-
--- how many readings the node at an entry counts, 0 where there is none
-abbrev pub readings_in : {Q : Type 0} → Option (Node Q) → ℕ
-readings_in None = 0
-readings_in (Some n) = n.readings

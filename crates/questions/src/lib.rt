@@ -1,4 +1,5 @@
 // The questions that one version's tree answers, by walks over the table that write nothing. Every walk ends on any table.
+// Thin over functions with the same promise (`span`: from a place in the output on): those have proofs written by hand, and a fault here is then refused for the fact that fails.
 #![tactic(auto)]
 
 ghost use Rattle.questions.specs.Finding.{Finds, Reads};
@@ -63,7 +64,7 @@ pub fn span<S: BlockStore, Q: Summary<Reading = S::Reading> + Copy>(
 )
     ensures { Spanned Q.Summary.means (S.BlockStore.rows store.now) nodes.now at a b out.old out.new }
 {
-    spanning::span_start(nodes, store, at, a, b, out)
+    spanning::span_walk(nodes, store, at, a, b, out, 0)
 }
 
 // The summary of the readings a to b − 1.

@@ -16,12 +16,8 @@ pub(crate) fn read<S: BlockStore, Q: Summary<Reading = S::Reading> + Copy>(
 ) -> Option<Answer<S::Reading>>
     ensures { Reads Q.Summary.means (S.BlockStore.rows store.now) nodes.now at position result }
 {
-    let Some(found) = find_walk(nodes, at, position) else {
-        return None;
-    };
-    let Some(reading) = store.reading(found.block, found.place) else {
-        return None;
-    };
+    let found = find_walk(nodes, at, position)?;
+    let reading = store.reading(found.block, found.place)?;
     Some(Answer {
         reading,
         path: found.path,

@@ -4,7 +4,7 @@ ghost use Rattle.std.specs.Int.Signed.{mag};
 
 mod kind;
 
-#[derive(Clone, Copy)]
+#[derive(Clone, Copy, PartialEq, Eq, Debug)]
 pub struct Count {
     pub value: i16,
     ghost fits: { mag value < 2 ^ 15 },

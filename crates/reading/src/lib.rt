@@ -16,15 +16,15 @@ pub use laws::{rank_values, round_trips};
 pub use single::Single;
 
 // A kind of reading.
-pub trait Reading: Copy {
+pub trait Reading: Copy + Eq {
     // The kind's number in a journal's head.
     const CODE: u8;
     // How many bytes one encoded reading takes.
     const WIDTH: usize;
 
-    ghost coded: { ℕ };
+    ghost CODE: { ℕ };
 
-    ghost wide: { ℕ };
+    ghost WIDTH: { ℕ };
 
     // Did the sensor give nothing?
     ghost missing: { Self → Bool };
@@ -38,23 +38,14 @@ pub trait Reading: Copy {
     // The reading that bytes stand for, where they are known to be an encoded reading; other bytes stand for some reading too.
     ghost restored: { List ℕ → Self };
 
-    fn kind_code() -> u8
-        ensures { result ≡ coded };
-
-    fn byte_width() -> usize
-        ensures { result ≡ wide };
-
     fn is_missing(&self) -> bool
         ensures { result ≡ missing self.now };
 
     fn rank(&self) -> i64
         ensures { result ≡ ranked self.now };
 
-    // Are the two readings the same value? Not whether they rank alike.
-    fn same(&self, other: &Self) -> bool
-        ensures { Decides result (self.now ≡ other.now) };
-
-    // Writes the encoded reading into `out` from `at` on; false, with nothing written, where it does not fit.
+    // Writes the encoded reading into `out` from `at` on; false, with nothing written, where it does not fit. A bool and no `Result`: there is one way to
+    // fail, and by the project's rule the answer is no.
     fn encode(&self, out: &mut [u8], at: usize) -> bool
         ensures { Written out.old at (bytes self.now) result out.new };
 
@@ -67,7 +58,10 @@ pub trait Reading: Copy {
         ensures { result ≡ restored from.now };
 
     // Every encoded reading is as long as the width.
-    ghost measured: { (x : Self) → length (bytes x) ≡ wide };
+    ghost measured: { (x : Self) → length (bytes x) ≡ WIDTH };
+
+    // Readings are equal where they are one value, and not where they only rank alike.
+    ghost same: { (x y : Self) → Decides (Self.eq x y) (x ≡ y) };
 
     // Two readings with the same bytes are one.
     ghost told: { (x y : Self) → bytes x ≡ bytes y → x ≡ y };
@@ -138,10 +132,10 @@ mod tests {
     fn zeros_differ_and_rank_alike(rt: HostRuntime) {
         let plus = Single::from_bits(0);
         let minus = Single::from_bits(0x8000_0000);
-        assert!(rt; !plus.same(&minus));
+        assert!(rt; plus != minus);
         assert_eq!(rt; plus.rank(), minus.rank());
         let one = Single::from_bits(0x7F80_0001);
         let other = Single::from_bits(0xFFFF_FFFF);
-        assert!(rt; one.same(&other));
+        assert!(rt; one == other);
     }
 }

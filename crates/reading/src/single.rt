@@ -5,7 +5,7 @@ ghost use Rattle.reading.specs.Patterns.{canonical};
 mod bits;
 mod kind;
 
-#[derive(Clone, Copy)]
+#[derive(Clone, Copy, PartialEq, Eq, Debug)]
 pub struct Single {
     bits: u32,
     ghost fits: { bits < 2 ^ 32 },

@@ -1,16 +1,17 @@
 -- What the lines of a report say of an archive. Assumes nothing.
-use Rattle.std.proofs.Common.{◌≡◌, ℕ, suc, ◌+◌, ◌-◌, ◌<◌, ◌≤◌, min, false, cond, ltb, leb, List, ◌++◌, length, take, Some, None, Ok, Err, Option, Result, sym, refl, ap, ◌∙◌, subst, append_assoc, append-nil, add-one, arith, take_all, le-ltb}
+use Rattle.std.proofs.Common.{◌≡◌, ℕ, suc, ◌-◌, ◌≤◌, min, false, cond, ltb, leb, List, ◌++◌, length, take, Some, None, Ok, Option, Result, sym, refl, ap, ◌∙◌, subst, append-nil, arith, take_all, le-ltb}
 use native.Mathlib.Decide.{dec_le}
 use borrow.Author.Tests.{lt-leb}
 use Rattle.std.specs.List.{slice_get}
+use Rattle.std.specs.Result.{result_unwrap_or}
 use Rattle.std.proofs.lemmas.Bool.{cond-false}
 use Rattle.reading.specs.declared.count.Count.{Count}
 use Rattle.summary.specs.declared.peak.Highest.{Highest}
 use Rattle.summary.specs.declared.peak.Peak.{Peak}
 use Rattle.summary.specs.Summing.{summary_of}
-use Rattle.store.specs.declared.cause.Cause.{Cause}
 use Rattle.store.specs.declared.row.RowStore.{RowStore}
-use Rattle.store.specs.RowStores.{row_rows, row_kept, row_refuses}
+use Rattle.store.specs.RowStores.{row_kept}
+use Rattle.store.specs.Keeping.{Keeping, row_keeping}
 use Rattle.store.specs.Stores.{Empty}
 use Rattle.laid.specs.Laid.{root}
 use Rattle.history.specs.Edits.{Edit, list_of}
@@ -21,8 +22,8 @@ use Rattle.archive.specs.declared.fault.ReadFault.TheVariants as unread
 use Rattle.archive.specs.Asking.{all_readings, part, outside, answer_by, part_refusal, summary_answer}
 use Rattle.archive.specs.Calling.{Archive, Standing, SummaryTold}
 use Rattle.archive.specs.Records.{record_of, record_by, edit_of, edits_before}
-use Rattle.archive.proofs.Later.{same_some, some_none}
-use Rattle.archive.proofs.Looks.{BaseFound, found_below, nth_some}
+use Rattle.archive.proofs.Later.{same_some}
+use Rattle.archive.proofs.Looks.{BaseFound, found_below}
 use Rattle.archive.proofs.Asks.{readings_counted}
 use Rattle.runs.specs.Runs.{History}
 use Rattle.journal.specs.declared.fault.LoadFault.{LoadFault}
@@ -40,12 +41,6 @@ whole_answer es v n low e =
     let all : take (n - 0) xs ≡ xs = take_all (n - 0) xs (omega arith) in
     ap (λ o. answer_by o (summary_of peaks (part (list_of es v) 0 n))) none ∙ ap (λ l. Ok (summary_of peaks l)) all
 
-same_ok : {A E : Type 0} (x y : A) → ◌≡◌ {A = Result A E} (Ok x) (Ok y) → x ≡ y
-same_ok x y e = cc
-
-never_err : {A E : Type 0} (x : E) (y : A) → ◌≡◌ {A = Result A E} (Err x) (Ok y) → ⊥
-never_err x y e = let z : ◌≡◌ {A = ℕ} 0 1 = cc in omega arith
-
 -- what is written of a version does not hang on where its root stands
 written_same : (es : List (Edit Count)) (v root : ℕ) → (record_of es v root).written ≡ (record_of es v 0).written
 written_same es v root = go (edit_of es v)
@@ -54,15 +49,12 @@ written_same es v root = go (edit_of es v)
     go None = refl
     go (Some e) = refl
 
-module _ {S : Type 0} (rows : S → List (List Count)) (refuses : S → List Count → Cause → Type 0) (s : Archive (Peak Count) S) where
-  pub top_there : (v n : ℕ) (p : Peak Count) → SummaryTold peaks rows refuses s v 0 n (Ok p) → TopTold rows refuses s v n p.highest
-  top_there v n p told es st low e = ap (λ q. q.highest) (same_ok _ _ (told (Some es) st ∙ whole_answer es v n low e))
-
-  pub top_missing : (v n : ℕ) (f : ReadFault) → SummaryTold peaks rows refuses s v 0 n (Err f) → TopTold rows refuses s v n None
-  top_missing v n f told es st low e = absurd (never_err _ _ (told (Some es) st ∙ whole_answer es v n low e))
+module _ {S : Type 0} (keeps : Keeping S Count) (s : Archive (Peak Count) S) where
+  pub top_there : (v n : ℕ) (r : Result (Peak Count) ReadFault) (none : Peak Count) → SummaryTold peaks keeps s v 0 n r → TopTold keeps s v n (result_unwrap_or r none).highest
+  top_there v n r none told es st low e = ap (λ q. (result_unwrap_or q none).highest) (told (Some es) st ∙ whole_answer es v n low e)
 
   -- the record that is read is the version's
-  module _ (v : ℕ) (es : List (Edit Count)) (st : Standing peaks rows refuses (Some es) s) (low : v ≤ length es) (noted : Version) (there : slice_get s.tables.versions v ≡ Some noted) where
+  module _ (v : ℕ) (es : List (Edit Count)) (st : Standing peaks keeps (Some es) s) (low : v ≤ length es) (noted : Version) (there : slice_get s.tables.versions v ≡ Some noted) where
     at : BaseFound peaks s.tables es st.stands.tables v noted
     at = found_below peaks s.tables es st.stands.tables v low noted there
 
@@ -75,47 +67,27 @@ module _ {S : Type 0} (rows : S → List (List Count)) (refuses : S → List Cou
     written_is : noted.written ≡ (record_of es v 0).written
     written_is = ap (λ w. w.written) (same_some _ _ (sym there ∙ at.stands.recorded)) ∙ written_same es v (root at.tree)
 
-  pub line_there : (v : ℕ) (noted : Version) (top : Option (Highest Count)) (text : List ℕ) → Some noted ≡ slice_get s.tables.versions v → TopTold rows refuses s v noted.readings top
-      → text ≡ line_text v noted.blocks noted.readings noted.written top → LineTold rows refuses s v text
-  line_there v noted top text read t e es st low =
-      let there : slice_get s.tables.versions v ≡ Some noted = sym read in
+  pub line_there : (v : ℕ) (noted : Version) (top : Option (Highest Count)) (before after : List ℕ) → slice_get s.tables.versions v ≡ Some noted → TopTold keeps s v noted.readings top
+      → after ≡ before ++ line_text v noted.blocks noted.readings noted.written top → LineTold keeps s v before after
+  line_there v noted top before after there t e es st low =
       let b = blocks_are v es st low noted there in
       let r = readings_are v es st low noted there in
       let w = written_is v es st low noted there in
       let p = t es st low r in
-      e ∙ ap (λ n. line_text v n noted.readings noted.written top) b
+      e ∙ ap (λ l. before ++ l) (ap (λ n. line_text v n noted.readings noted.written top) b
       ∙ ap (λ n. line_text v (length (list_of es v)) n noted.written top) r
       ∙ ap (λ n. line_text v (length (list_of es v)) (length (all_readings (list_of es v))) n top) w
-      ∙ ap (line_text v (length (list_of es v)) (length (all_readings (list_of es v))) (record_of es v 0).written) p
-
-  pub line_missing : (v : ℕ) (text : List ℕ) → slice_get s.tables.versions v ≡ None → LineTold rows refuses s v text
-  line_missing v text none es st low =
-      let n = st.stands.tables.as_many in
-      let t = nth_some st.stands.tables.trees v (omega arith) in
-      absurd (some_none _ (sym (st.stands.tables.each v t.0 t.1).recorded ∙ none))
-
-  -- one line more
-  pub lines_more : (n : ℕ) (before text shown line after : List ℕ) → n < s.tables.count → LinesTold rows refuses s n before text → LineTold rows refuses s n line → shown ≡ line → after ≡ text ++ shown
-      → LinesTold rows refuses s (n + 1) before after
-  lines_more n before text shown line after h told said p e None st = absurd (omega arith)
-  lines_more n before text shown line after h told said p e (Some es) st =
-      let c = st.stands.tables.counted in
-      e ∙ ap (λ l. l ++ shown) (told (Some es) st) ∙ append_assoc before (version_lines es n) shown ∙ ap (λ l. before ++ (version_lines es n ++ l)) (p ∙ said es st (omega arith))
-      ∙ ap (λ k. before ++ version_lines es k) (sym (add-one n))
-
-  pub lines_none : (before : List ℕ) → LinesTold rows refuses s 0 before before
-  lines_none before None st = sym (append-nil before)
-  lines_none before (Some es) st = sym (append-nil before)
+      ∙ ap (line_text v (length (list_of es v)) (length (all_readings (list_of es v))) (record_of es v 0).written) p)
 
   -- the table, from its header on
-  table_shown : (head mid : List ℕ) → head ≡ header → LinesTold rows refuses s s.tables.count head mid → (h : History Count) → Standing peaks rows refuses h s → mid ≡ table_text h
+  table_shown : (head mid : List ℕ) → head ≡ header → LinesTold keeps s s.tables.count head mid → (h : History Count) → Standing peaks keeps h s → mid ≡ table_text h
   table_shown head mid e told None st = told None st ∙ append-nil head ∙ e
   table_shown head mid e told (Some es) st =
       told (Some es) st ∙ ap (λ l. l ++ version_lines es s.tables.count) e ∙ ap (λ n. header ++ version_lines es n) st.stands.tables.counted
 
-  pub all_shown : (head mid shown line text : List ℕ) (answer : Result ℕ LoadFault) → head ≡ header → LinesTold rows refuses s s.tables.count head mid → line ≡ fault_text answer → shown ≡ line
-      → text ≡ mid ++ shown → (h : History Count) → Standing peaks rows refuses h s → text ≡ table_text h ++ fault_text answer
-  all_shown head mid shown line text answer e told f p q h st = q ∙ ap (λ l. l ++ shown) (table_shown head mid e told h st) ∙ ap (λ l. table_text h ++ l) (p ∙ f)
+  pub all_shown : (head mid text : List ℕ) (answer : Result ℕ LoadFault) → head ≡ header → LinesTold keeps s s.tables.count head mid → text ≡ mid ++ fault_text answer
+      → (h : History Count) → Standing peaks keeps h s → text ≡ table_text h ++ fault_text answer
+  all_shown head mid text answer e told q h st = q ∙ ap (λ l. l ++ fault_text answer) (table_shown head mid e told h st)
 
 -- the first bytes, as the code cuts them out
 first_bytes : (bs : List ℕ) (most few : ℕ) → few ≡ min (length bs) most → take (few - 0) bs ≡ take most bs
@@ -127,7 +99,7 @@ first_bytes bs most few e = elim (dec_le most (length bs)) [
 -- the report over tables of the sizes that are given
 pub first_reported : (most few : ℕ) (bs : List ℕ) (nodes : List (Node (Peak Count))) (versions : List Version) (area rows : List Count) (store : RowStore Count) (text : List ℕ)
     → length nodes ≡ 1024 → length versions ≡ 256 → length area ≡ 1024 → length rows ≡ 4096 → Empty row_kept rows store → few ≡ min (length bs) most
-    → ReportedOver row_rows row_refuses nodes versions store area (take (few - 0) bs) text → ReportedFirst most bs text
+    → ReportedOver row_keeping nodes versions store area (take (few - 0) bs) text → ReportedFirst most bs text
 first_reported most few bs nodes versions area rows store text n v a r e m o = record {
   nodes = nodes;
   nodes_there = n;
@@ -139,5 +111,5 @@ first_reported most few bs nodes versions area rows store text n v a r e m o = r
   store_there = r;
   store = store;
   empty = e;
-  over = subst (λ l. ReportedOver row_rows row_refuses nodes versions store area l text) (first_bytes bs most few m) o;
+  over = subst (λ l. ReportedOver row_keeping nodes versions store area l text) (first_bytes bs most few m) o;
 }

@@ -1,16 +1,16 @@
 -- The report of a journal of counts: a line for each version of the archive that it gives, and one for the fault that stopped loading. Assumes
 -- nothing.
 use Rattle.std.specs.Prelude.{◌≡◌, ℕ, zero, suc, ◌≤◌, Bool, List, [], ◌++◌, length, take, Some, None, Ok, Err, codes, decimal, Option, Result}
-use Rattle.std.specs.Fmt.{signed_decimal}
-use Rattle.reading.specs.Kinds.{count_missing, count_bytes}
+use Rattle.reading.specs.Kinds.{count_missing}
 use Rattle.reading.specs.declared.count.Count.{Count}
 use Rattle.summary.specs.declared.peak.Highest.{Highest}
 use Rattle.summary.specs.declared.peak.Peak.{Peak}
 use Rattle.summary.specs.Summing.{Summing, summary_of}
 use Rattle.summary.specs.Peaks.{peak}
-use Rattle.store.specs.declared.cause.Cause.{Cause}
+use Rattle.summary.specs.Printed.{top_text}
 use Rattle.store.specs.declared.row.RowStore.{RowStore}
-use Rattle.store.specs.RowStores.{row_rows, row_kept, row_refuses}
+use Rattle.store.specs.RowStores.{row_kept}
+use Rattle.store.specs.Keeping.{Keeping, row_keeping}
 use Rattle.store.specs.Stores.{Empty}
 use Rattle.history.specs.Edits.{Edit, list_of}
 use Rattle.nodes.specs.declared.node.Node.{Node}
@@ -21,8 +21,8 @@ use Rattle.archive.specs.Records.{record_of}
 use Rattle.runs.specs.Runs.{History}
 use Rattle.journal.specs.declared.fault.LoadFault.{LoadFault}
 use Rattle.journal.specs.Faults.{fault_number, inner_refusal, store_cause}
-use Rattle.journal.specs.Format.{Coding}
 use Rattle.journal.specs.Loading.{LoadedFrom}
+use Rattle.intake_bytes.specs.Intake.{counts_coding}
 
 -- ---- counts
 
@@ -32,18 +32,10 @@ absent x = count_missing x.value
 abbrev pub peaks : Summing Count (Peak Count)
 peaks = peak absent (λ x. x.value)
 
-abbrev pub counts : Coding Count
-counts = record { code = 1; wide = 2; bytes = λ x. count_bytes x.value }
-
 -- ---- the text
 
 abbrev pub header : List ℕ
 header = codes "version blocks readings written peak place\n"
-
--- the columns peak and place
-abbrev pub top_text : Option (Highest Count) → List ℕ
-top_text None = codes "- -"
-top_text (Some h) = signed_decimal h.reading.value ++ (codes " " ++ decimal h.place.value)
 
 -- a line: version, blocks, readings, written nodes, peak and place
 abbrev pub line_text : ℕ → ℕ → ℕ → ℕ → Option (Highest Count) → List ℕ
@@ -76,28 +68,28 @@ fault_text (Err f) = codes "fault " ++ (decimal (fault_number f.fault) ++ (codes
 
 -- ---- what the functions write
 
-module _ {S : Type 0} (rows : S → List (List Count)) (refuses : S → List Count → Cause → Type 0) where
+module _ {S : Type 0} (keeps : Keeping S Count) where
   -- the peak of a version, where the readings asked for are all of its readings
   abbrev pub TopTold : Archive (Peak Count) S → ℕ → ℕ → Option (Highest Count) → Type 0
   TopTold s v readings top =
-      (es : List (Edit Count)) → Standing peaks rows refuses (Some es) s → v ≤ length es → readings ≡ length (all_readings (list_of es v)) →
+      (es : List (Edit Count)) → Standing peaks keeps (Some es) s → v ≤ length es → readings ≡ length (all_readings (list_of es v)) →
       top ≡ (summary_of peaks (all_readings (list_of es v))).highest
 
-  -- the line of a version
-  abbrev pub LineTold : Archive (Peak Count) S → ℕ → List ℕ → Type 0
-  LineTold s v text = (es : List (Edit Count)) → Standing peaks rows refuses (Some es) s → v ≤ length es → text ≡ version_line es v
+  -- the line of a version added to a text
+  abbrev pub LineTold : Archive (Peak Count) S → ℕ → List ℕ → List ℕ → Type 0
+  LineTold s v before after = (es : List (Edit Count)) → Standing peaks keeps (Some es) s → v ≤ length es → after ≡ before ++ version_line es v
 
   -- the lines of the first n versions added to a text
   abbrev pub LinesTold : Archive (Peak Count) S → ℕ → List ℕ → List ℕ → Type 0
-  LinesTold s n before after = (h : History Count) → Standing peaks rows refuses h s → after ≡ before ++ lines_of h n
+  LinesTold s n before after = (h : History Count) → Standing peaks keeps h s → after ≡ before ++ lines_of h n
 
   -- the text of a journal, loaded into the tables, the store and the row area that were given
   pub record ReportedOver (nodes : List (Node (Peak Count))) (versions : List Version) (store : S) (area : List Count) (bytes text : List ℕ) : Type 0 where
     pub answer : Result ℕ LoadFault
     pub archive : Archive (Peak Count) S
     pub area_after : List Count
-    pub loaded : LoadedFrom peaks rows refuses counts nodes versions store area bytes answer archive area_after
-    pub shown : (h : History Count) → Standing peaks rows refuses h archive → text ≡ table_text h ++ fault_text answer
+    pub loaded : LoadedFrom peaks keeps counts_coding nodes versions store area bytes answer archive area_after
+    pub shown : (h : History Count) → Standing peaks keeps h archive → text ≡ table_text h ++ fault_text answer
 
 -- The text of the first bytes, at most so many, with 1,024 nodes, 256 versions, a row area of 1,024 readings and a row store with no block over an area
 -- of 4,096.
@@ -112,7 +104,7 @@ pub record ReportedFirst (most : ℕ) (bytes text : List ℕ) : Type 0 where
   pub store_there : length store_area ≡ 4096
   pub store : RowStore Count
   pub empty : Empty row_kept store_area store
-  pub over : ReportedOver row_rows row_refuses nodes versions store area (take most bytes) text
+  pub over : ReportedOver row_keeping nodes versions store area (take most bytes) text
 
 -- the first 32,768 bytes are read
 abbrev pub Reported : List ℕ → List ℕ → Type 0

@@ -1,20 +1,22 @@
 // The line of a fault.
-ghost use Rattle.std.specs.Prelude.{◌≡◌, IfOk, string_bytes};
+ghost use Rattle.std.specs.Prelude.{Some, Err};
 ghost use Rattle.report_text.specs.Report.{fault_text};
 
 use journal::LoadFault;
-use std::alloc::{AllocError, Global};
+use std::fmt;
 
-// The line of the fault that stopped loading; nothing where none did.
-pub(crate) fn fault_line(heap: Global, answer: Result<u32, LoadFault>) -> Result<String, AllocError>
-    ensures { IfOk result (λ s. string_bytes s ≡ fault_text answer) }
-{
-    let Err(found) = answer else {
-        return String::from_str(heap, "");
-    };
-    let number = found.fault.number();
-    let place = found.place;
-    let refusal = found.fault.refusal();
-    let cause = found.fault.cause();
-    format!(in heap; "fault {number} {place} {refusal} {cause}\n")
+// Its number, its byte place, the refusal inside it, and the store's cause inside that.
+#[derive(Clone, Copy)]
+pub(crate) struct FaultLine(pub LoadFault);
+
+impl fmt::Display for FaultLine {
+    ghost output = { λ line. Some (fault_text (Err line.0)) };
+
+    fn fmt<W: fmt::Write>(&self, f: &mut fmt::Formatter<W>) -> fmt::Result {
+        let LoadFault { fault, place } = self.0;
+        let number = fault.number();
+        let refusal = fault.refusal();
+        let cause = fault.cause();
+        writeln!(f, "fault {number} {place} {refusal} {cause}")
+    }
 }

@@ -1,7 +1,7 @@
 -- A call as it is asked, and what it says of itself: the contracts of the archive's calls, in one relation. Assumes nothing.
+use Rattle.store.specs.Keeping.{Keeping}
 use Rattle.std.specs.Prelude.{◌≡◌, ℕ, ◌+◌, cond, List, [], ◌∷◌, ◌++◌, length, take, drop, Result, nat_le}
 use Rattle.summary.specs.Summing.{Summing}
-use Rattle.store.specs.declared.cause.Cause.{Cause}
 use Rattle.questions.specs.declared.found.Answer.{Answer}
 use Rattle.archive.specs.declared.fault.EditFault.{EditFault}
 use Rattle.archive.specs.declared.fault.ReadFault.{ReadFault}
@@ -39,26 +39,29 @@ pub record Bench (Q S R : Type 0) : Type 0 where
   pub archive : Archive Q S
   pub output : List R
 
-module _ {R Q S : Type 0} (means : Summing R Q) (rows : S → List (List R)) (refuses : S → List R → Cause → Type 0) where
+abbrev pub bench_at : {R Q S : Type 0} → Archive Q S → List R → Bench Q S R
+bench_at archive output = record { archive = archive; output = output }
+
+module _ {R Q S : Type 0} (means : Summing R Q) (keeps : Keeping S R) where
   -- what the contract of each call says
   pub record EditDid (s : Bench Q S R) (asked : Asked R) (a : Reply R Q) (t : Bench Q S R) : Type 0 where
     pub result : Result Accepted EditFault
     pub replied : a ≡ Edited result
-    pub kept : EditKept means rows refuses s.archive asked result t.archive
-    pub law : EditLaw means rows refuses s.archive asked result t.archive
+    pub kept : EditKept means keeps s.archive asked result t.archive
+    pub law : EditLaw means keeps s.archive asked result t.archive
     pub output : t.output ≡ s.output
 
   pub record ReadingDid (s : Bench Q S R) (v position : ℕ) (a : Reply R Q) (t : Bench Q S R) : Type 0 where
     pub result : Result (Answer R) ReadFault
     pub replied : a ≡ Read result
-    pub law : ReadingTold means rows refuses s.archive v position result
+    pub law : ReadingTold means keeps s.archive v position result
     pub same : t ≡ s
 
   -- a span into an output from a place on: what stands before the place stays, and the rest of the output is the span's
   pub record SpanInto (s : Archive Q S) (v from upto to : ℕ) (out : List R) (result : Result ℕ ReadFault) (after : List R) : Type 0 where
     pub rest : List R
     pub left : SpanLeft from upto (drop to out) result rest
-    pub law : SpanTold means rows refuses s v from upto (drop to out) result rest
+    pub law : SpanTold means keeps s v from upto (drop to out) result rest
     pub output : after ≡ take to out ++ rest
 
   pub record SpanDid (s : Bench Q S R) (v from upto to : ℕ) (a : Reply R Q) (t : Bench Q S R) : Type 0 where
@@ -70,7 +73,7 @@ module _ {R Q S : Type 0} (means : Summing R Q) (rows : S → List (List R)) (re
   pub record SummaryDid (s : Bench Q S R) (v from upto : ℕ) (a : Reply R Q) (t : Bench Q S R) : Type 0 where
     pub result : Result Q ReadFault
     pub replied : a ≡ Summed result
-    pub law : SummaryTold means rows refuses s.archive v from upto result
+    pub law : SummaryTold means keeps s.archive v from upto result
     pub same : t ≡ s
 
   abbrev pub Did : Bench Q S R → Wanted R → Reply R Q → Bench Q S R → Type 0

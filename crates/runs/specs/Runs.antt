@@ -1,7 +1,7 @@
 -- The law over runs: what calls answer and leave, one after another, by the replay of the edits accepted so far. Assumes nothing.
+use Rattle.store.specs.Keeping.{Keeping}
 use Rattle.std.specs.Prelude.{◌≡◌, ℕ, min, cond, ◌||◌, List, [], ◌∷◌, ◌++◌, map, length, take, drop, Some, None, Ok, Err, Option, Result, ◌==◌}
 use Rattle.summary.specs.Summing.{Summing}
-use Rattle.store.specs.declared.cause.Cause.{Cause}
 use Rattle.history.specs.Edits.{Edit}
 use Rattle.nodes.specs.declared.node.Node.{Node}
 use Rattle.archive.specs.declared.version.Version.{Version}
@@ -14,19 +14,20 @@ use Rattle.runs.specs.declared.call.Call.{Call}
 use Rattle.runs.specs.declared.ran.Ran.{Ran}
 use Rattle.runs.specs.declared.reply.Reply.{Reply}
 use Rattle.runs.specs.declared.reply.Reply.TheVariants.{Edited, Read, Spanned, Summed}
-use Rattle.runs.specs.Calls.{Wanted, edit, reading, span, summary, Bench, wanted, Chain}
+use Rattle.archive.specs.Stands.{tables_of}
+use Rattle.runs.specs.Calls.{Wanted, edit, reading, span, summary, Bench, bench_at, wanted, Chain}
 
 -- The edits accepted so far, the newest first; none where begin gave no versions.
 abbrev pub History : Type 0 → Type 0
 History R = Option (List (Edit R))
 
-module _ {R Q S : Type 0} (means : Summing R Q) (rows : S → List (List R)) (refuses : S → List R → Cause → Type 0) where
+module _ {R Q S : Type 0} (means : Summing R Q) (keeps : Keeping S R) where
   -- An edit in a run: it is answered as by the replay, and leaves what it should.
   pub record EditStep (h : History R) (s : Bench Q S R) (asked : Asked R) (a : Reply R Q) (t : Bench Q S R) : Type 0 where
     pub result : Result Accepted EditFault
     pub replied : a ≡ Edited result
-    pub kept : EditKept means rows refuses s.archive asked result t.archive
-    pub told : EditTold means rows refuses h s.archive asked result t.archive
+    pub kept : EditKept means keeps s.archive asked result t.archive
+    pub told : EditTold means keeps h s.archive asked result t.archive
     pub output : t.output ≡ s.output
 
   -- A span in a run: only the output changes, from a place on.
@@ -43,12 +44,12 @@ module _ {R Q S : Type 0} (means : Summing R Q) (rows : S → List (List R)) (re
 
   -- the edits accepted after an answer: one more where the edit was accepted, its row under the number that the store gave it
   abbrev pub one_more : (es : List (Edit R)) (s : Archive Q S) (asked : Asked R) (t : Archive Q S) (o : Option EditFault) (r : Result Accepted EditFault)
-      → Answered o r (λ x. EditAccepted means rows refuses es s asked x t) (RowRefused means rows refuses s.store asked) → List (Edit R)
+      → Answered o r (λ x. EditAccepted means keeps es s asked x t) (RowRefused means keeps s.store asked) → List (Edit R)
   one_more es s asked t (Some f) r told = es
   one_more es s asked t None (Ok x) told = edit_asked es asked told.number ∷ es
   one_more es s asked t None (Err f) told = es
 
-  abbrev pub after_edit : (h : History R) (s : Archive Q S) (asked : Asked R) (r : Result Accepted EditFault) (t : Archive Q S) → EditTold means rows refuses h s asked r t → History R
+  abbrev pub after_edit : (h : History R) (s : Archive Q S) (asked : Asked R) (r : Result Accepted EditFault) (t : Archive Q S) → EditTold means keeps h s asked r t → History R
   after_edit None s asked r t told = None
   after_edit (Some es) s asked r t told = Some (one_more es s asked t (asked_refusal s.tables es asked) r told)
 
@@ -61,23 +62,23 @@ module _ {R Q S : Type 0} (means : Summing R Q) (rows : S → List (List R)) (re
 
   -- A run: the archive stands for its history at the start and after each call, and each call is answered by the history so far.
   abbrev pub Run : History R → Bench Q S R → List (Wanted R) → List (Reply R Q) → Bench Q S R → Type 0
-  Run h s [] [] t = Standing means rows refuses h s.archive × (t ≡ s)
+  Run h s [] [] t = Standing means keeps h s.archive × (t ≡ s)
   Run h s [] (a ∷ as') t = ⊥
   Run h s (w ∷ ws) [] t = ⊥
-  Run h s (w ∷ ws) (a ∷ as') t = Standing means rows refuses h s.archive × ((u : Bench Q S R) × (step : Step h s w a u) × Run (after h s w a u step) u ws as' t)
+  Run h s (w ∷ ws) (a ∷ as') t = Standing means keeps h s.archive × ((u : Bench Q S R) × (step : Step h s w a u) × Run (after h s w a u step) u ws as' t)
 
   -- Calls that do what their contracts say, on an archive that stands for a history, are a run from that history.
   abbrev pub RunsLawful : Type 0
-  RunsLawful = (h : History R) (s t : Bench Q S R) (ws : List (Wanted R)) (as' : List (Reply R Q)) → Standing means rows refuses h s.archive → Chain means rows refuses s ws as' t → Run h s ws as' t
+  RunsLawful = (h : History R) (s t : Bench Q S R) (ws : List (Wanted R)) (as' : List (Reply R Q)) → Standing means keeps h s.archive → Chain means keeps s ws as' t → Run h s ws as' t
 
 -- the history of an archive that has just begun: no edit; or none, where a table is empty
 abbrev pub begun_history : {R Q : Type 0} → List (Node Q) → List Version → History R
 begun_history nodes versions = cond (length nodes == 0 || length versions == 0) None (Some [])
 
 abbrev pub bench : {R Q S : Type 0} → List (Node Q) → ℕ → List Version → ℕ → S → List R → Bench Q S R
-bench nodes used versions count store output = record { archive = record { tables = record { nodes = nodes; used = used; versions = versions; count = count }; store = store }; output = output }
+bench nodes used versions count store output = bench_at (record { tables = tables_of nodes used versions count; store = store }) output
 
-module _ {R Q S : Type 0} (means : Summing R Q) (rows : S → List (List R)) (refuses : S → List R → Cause → Type 0) where
+module _ {R Q S : Type 0} (means : Summing R Q) (keeps : Keeping S R) where
   -- Calls carried out from begin on: begin wrote what it should; then came a run of as many calls as there were places for replies, from the history of
   -- an archive that has just begun, on the store and the output as they were given; and the places past the last reply are as they were.
   pub record Carried (nodes : List (Node Q)) (versions : List Version) (store : S) (readings : List R) (calls : List Call) (out : List R) (replies : List (Reply R Q)) (r : Ran)
@@ -88,9 +89,9 @@ module _ {R Q S : Type 0} (means : Summing R Q) (rows : S → List (List R)) (re
     pub begins : Begin means nodes versions begun begun_nodes begun_versions
     pub done : r.done ≡ min (length calls) (length replies)
     pub rest : drop r.done replies_after ≡ drop r.done replies
-    pub run : Run means rows refuses (begun_history nodes versions) (bench begun_nodes begun.used begun_versions begun.count store out) (map (wanted readings) (take r.done calls)) (take r.done replies_after)
+    pub run : Run means keeps (begun_history nodes versions) (bench begun_nodes begun.used begun_versions begun.count store out) (map (wanted readings) (take r.done calls)) (take r.done replies_after)
         (bench nodes_after r.used versions_after r.count store_after out_after)
 
   -- Calls carried out on an archive that stands for a history: a run from there.
   abbrev pub CarriedOn : Bench Q S R → List (Wanted R) → List (Reply R Q) → Bench Q S R → Type 0
-  CarriedOn s ws as' t = (h : History R) → Standing means rows refuses h s.archive → Run means rows refuses h s ws as' t
+  CarriedOn s ws as' t = (h : History R) → Standing means keeps h s.archive → Run means keeps h s ws as' t

@@ -1,6 +1,7 @@
 // A call, without references: it names its row by where it stands in the readings that come beside it.
 
-#[derive(Clone, Copy)]
+// No slice in place of `from` and `len`: a row that does not lie in the readings is part of the promise, and is answered as one without readings.
+#[derive(Clone, Copy, PartialEq, Eq, Debug)]
 pub enum Call {
     Insert {
         base: u32,

@@ -8,7 +8,7 @@ use summary::Summary;
 // For every store, pile, kind and lawful summary: calls that do what their contracts say, on an archive that stands for a history, are a run from
 // that history.
 pub fn runs_lawful<S: BlockStore, Q: Summary<Reading = S::Reading>>() -> u8
-    ensures { RunsLawful Q.Summary.means S.BlockStore.rows S.BlockStore.refuses }
+    ensures { RunsLawful Q.Summary.means S.BlockStore }
 {
     0
 }

@@ -2,7 +2,7 @@
 use archive::{Accepted, EditFault, ReadFault};
 use questions::Answer;
 
-#[derive(Clone, Copy)]
+#[derive(Clone, Copy, PartialEq, Eq, Debug)]
 pub enum Reply<R, Q> {
     Edited(Result<Accepted, EditFault>),
     Read(Result<Answer<R>, ReadFault>),

@@ -1,13 +1,13 @@
 // A list of calls, carried out one after another on an archive.
 ghost use Rattle.std.specs.Prelude.{◌≡◌, min, map, length, take, drop};
 ghost use Rattle.archive.specs.Calling.{archive_of};
-ghost use Rattle.runs.specs.Calls.{wanted, Chain};
+ghost use Rattle.runs.specs.Calls.{wanted, Chain, bench_at};
 ghost use Rattle.runs.specs.Runs.{Carried, CarriedOn};
 
 use crate::call::Call;
 use crate::ran::Ran;
 use crate::reply::Reply;
-use crate::steps::{carry_one, note};
+use crate::steps::carry_one;
 use archive::{NodeTable, Version};
 use nodes::Node;
 use store::BlockStore;
@@ -25,14 +25,14 @@ pub(crate) fn carry_all<S: BlockStore, Q: Summary<Reading = S::Reading> + Copy>(
 ) -> usize
     ensures done { result ≡ min (length calls.now) (length replies.old) }
     ensures rest { drop result replies.new ≡ drop result replies.old }
-    ensures chain { Chain Q.Summary.means S.BlockStore.rows S.BlockStore.refuses (record { archive = archive_of table.old versions.old store.old; output = out.old }) (map (wanted readings.now) (take result calls.now)) (take result replies.new) (record { archive = archive_of table.new versions.new store.new; output = out.new }) }
-    ensures law { CarriedOn Q.Summary.means S.BlockStore.rows S.BlockStore.refuses (record { archive = archive_of table.old versions.old store.old; output = out.old }) (map (wanted readings.now) (take result calls.now)) (take result replies.new) (record { archive = archive_of table.new versions.new store.new; output = out.new }) }
+    ensures chain { Chain Q.Summary.means S.BlockStore (bench_at (archive_of table.old versions.old store.old) out.old) (map (wanted readings.now) (take result calls.now)) (take result replies.new) (bench_at (archive_of table.new versions.new store.new) out.new) }
+    ensures law { CarriedOn Q.Summary.means S.BlockStore (bench_at (archive_of table.old versions.old store.old) out.old) (map (wanted readings.now) (take result calls.now)) (take result replies.new) (bench_at (archive_of table.new versions.new store.new) out.new) }
     ensures lender { table.new.nodes.ghost_name ≡ table.old.nodes.ghost_name }
 {
     let count = calls.len().min(replies.len());
-    for i in 0..count {
-        let reply = carry_one(table, versions, store, readings, calls[i], out);
-        note(replies, i, reply);
+    // No `zip` with the calls: the check then knows nothing of the replies that were written.
+    for (i, reply) in replies[..count].iter_mut().enumerate() {
+        *reply = carry_one(table, versions, store, readings, calls[i], out);
     }
     count
 }
@@ -47,7 +47,7 @@ pub(crate) fn begin_and_carry<S: BlockStore, Q: Summary<Reading = S::Reading> + 
     out: &mut [S::Reading],
     replies: &mut [Reply<S::Reading, Q>],
 ) -> Ran
-    ensures carried { Carried Q.Summary.means S.BlockStore.rows S.BlockStore.refuses nodes.old versions.old store.old readings.now calls.now out.old replies.old result nodes.new versions.new store.new out.new replies.new }
+    ensures carried { Carried Q.Summary.means S.BlockStore nodes.old versions.old store.old readings.now calls.now out.old replies.old result nodes.new versions.new store.new out.new replies.new }
 {
     let mut table = NodeTable::begin(nodes, versions);
     let done = carry_all(&mut table, versions, store, readings, calls, out, replies);

@@ -1,7 +1,7 @@
 // One call of a list, carried out on an archive.
-ghost use Rattle.std.specs.Prelude.{◌≡◌, ◌+◌, slice_set};
+ghost use Rattle.std.specs.Prelude.{◌≡◌};
 ghost use Rattle.archive.specs.Calling.{archive_of};
-ghost use Rattle.runs.specs.Calls.{row_named, wanted, SpanInto, Did};
+ghost use Rattle.runs.specs.Calls.{row_named, wanted, SpanInto, Did, bench_at};
 
 use crate::call::Call;
 use crate::reply::Reply;
@@ -13,11 +13,10 @@ use summary::Summary;
 pub(crate) fn row_named<R>(readings: &[R], from: usize, len: usize) -> &[R]
     ensures { result.now ≡ row_named readings.now from len }
 {
-    if from <= readings.len() && len <= readings.len() - from {
-        &readings[from..from + len]
-    } else {
-        &readings[..0]
-    }
+    readings
+        .get(from..)
+        .and_then(|rest| rest.get(..len))
+        .unwrap_or(&[])
 }
 
 // A span into the output from a place on; past its end there is no output.
@@ -31,12 +30,13 @@ pub(crate) fn span_into<S: BlockStore, Q: Summary<Reading = S::Reading> + Copy>(
     out: &mut [S::Reading],
     to: usize,
 ) -> Result<u32, ReadFault>
-    ensures { SpanInto Q.Summary.means S.BlockStore.rows S.BlockStore.refuses (archive_of table.now versions.now store.now) version a b to out.old result out.new }
+    ensures { SpanInto Q.Summary.means S.BlockStore (archive_of table.now versions.now store.now) version a b to out.old result out.new }
 {
     let at = to.min(out.len());
     table.span(versions, store, version, a, b, &mut out[at..])
 }
 
+// A match and no table of functions: a call comes as data, and each kind of call has its own arguments and its own promise.
 pub(crate) fn carry_one<S: BlockStore, Q: Summary<Reading = S::Reading> + Copy>(
     table: &mut NodeTable<'_, Q>,
     versions: &mut [Version],
@@ -45,7 +45,7 @@ pub(crate) fn carry_one<S: BlockStore, Q: Summary<Reading = S::Reading> + Copy>(
     call: Call,
     out: &mut [S::Reading],
 ) -> Reply<S::Reading, Q>
-    ensures did { Did Q.Summary.means S.BlockStore.rows S.BlockStore.refuses (record { archive = archive_of table.old versions.old store.old; output = out.old }) (wanted readings.now call) result (record { archive = archive_of table.new versions.new store.new; output = out.new }) }
+    ensures did { Did Q.Summary.means S.BlockStore (bench_at (archive_of table.old versions.old store.old) out.old) (wanted readings.now call) result (bench_at (archive_of table.new versions.new store.new) out.new) }
     ensures lender { table.new.nodes.ghost_name ≡ table.old.nodes.ghost_name }
 {
     match call {
@@ -82,14 +82,5 @@ pub(crate) fn carry_one<S: BlockStore, Q: Summary<Reading = S::Reading> + Copy>(
         Call::Summary { version, a, b } => {
             Reply::Summed(table.summary(versions, store, version, a, b))
         }
-    }
-}
-
-// Writes a reply, if its place is there.
-pub(crate) fn note<R: Copy, Q: Copy>(replies: &mut [Reply<R, Q>], at: usize, reply: Reply<R, Q>)
-    ensures { replies.new ≡ slice_set replies.old at reply }
-{
-    if at < replies.len() {
-        replies[at] = reply;
     }
 }

@@ -1,16 +1,9 @@
 -- Looking through remembered numbers, newest first. Assumes nothing.
-use Rattle.std.proofs.Common.{◌≡◌, ℕ, zero, suc, ◌+◌, ◌≤◌, List, [], ◌∷◌, length, drop, Some, None, Option, sym, refl, ap, ◌∙◌, inl, inr, add-one, arith}
+use Rattle.std.proofs.Common.{◌≡◌, ℕ, zero, suc, ◌+◌, List, [], ◌∷◌, drop, Some, None, Option, sym, refl, ap, ◌∙◌, inl, inr, add-one, arith}
 use Rattle.std.specs.List.{slice_get}
 use Rattle.sharing.specs.Remembering.{First, Unknown}
 
 module _ {R : Type 0} (rows : List (List R)) (row : List R) where
-  -- none where nothing is left
-  pub first_end : (bs : List ℕ) (age : ℕ) → length bs ≤ age → First rows row (drop age bs) None
-  first_end [] zero h = refl
-  first_end [] (suc age) h = refl
-  first_end (b ∷ bs) zero h = absurd (omega arith)
-  first_end (b ∷ bs) (suc age) h = first_end bs age (omega arith)
-
   pub first_none : (bs : List ℕ) (age : ℕ) → None ≡ slice_get bs age → First rows row (drop age bs) None
   first_none [] zero h = refl
   first_none [] (suc age) h = refl
@@ -45,3 +38,6 @@ module _ {R : Type 0} (rows : List (List R)) (row : List R) where
   known [] n f u = let z : ◌≡◌ {A = ℕ} 0 1 = cc in omega arith
   known (b ∷ bs) n (inl (e, s)) u = u.0 e
   known (b ∷ bs) n (inr (ne, f)) u = known bs n f u.1
+
+-- what a layer that looked through its numbers knows
+pub ruleset looked = (found_row, none_known, known)

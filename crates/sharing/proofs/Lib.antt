@@ -1,4 +1,3 @@
 pub mod Comparing
 pub mod Finding
-pub mod Layering
 pub mod Turning

@@ -1,11 +1,12 @@
 -- A table that is written round and round, looked through from the newest entry. Assumes nothing.
-use Rattle.std.proofs.Common.{◌≡◌, ℕ, zero, suc, ◌+◌, ◌-◌, ◌%◌, ◌<◌, ◌≤◌, min, ◌≢◌, List, ◌∷◌, map, reverse, length, get_or, take, drop, set, Some, None, sym, ap, ◌∙◌, ⊎_elim, arith, length-append, length-drop, length-set, length-take}
+use Rattle.std.proofs.Common.{◌≡◌, ℕ, zero, suc, ◌+◌, ◌-◌, ◌%◌, ◌<◌, ◌≤◌, min, ◌≢◌, List, ◌∷◌, map, reverse, length, get_or, take, drop, set, Some, sym, ap, ◌∙◌, ⊎_elim, arith, length-append, length-drop, length-set, length-take}
 use Rattle.std.specs.List.{slice_get}
 use Rattle.std.proofs.lemmas.List.{length-reverse, get_or_append_left, get_or-append_right, get_or-reverse, get_or-take, get_or-drop, get_or-set_same, get_or-set_other, get_or-map, length-map, same_lists, take-map, take-take, take_all}
-use Rattle.std.proofs.lemmas.Option.{slice_get-get_or, slice_get_past}
+use Rattle.std.proofs.lemmas.Option.{slice_get-get_or}
 use Rattle.std.proofs.lemmas.Bool.{cases_lt}
-use Rattle.sharing.specs.Remembering.{backwards}
+use Rattle.sharing.specs.Remembering.{backwards, remembered}
 use Rattle.sharing.specs.declared.recent.Entry.{Entry}
+use Rattle.sharing.specs.declared.recent.Recent.{Recent}
 
 pub length_backwards : (es : List Entry) (n : ℕ) → length es ≡ 32 → n < 32 → length (backwards es n) ≡ 32
 length_backwards es n whole h = simp (length-append, length-reverse, length-take, length-drop) (omega arith)
@@ -63,9 +64,6 @@ module _ (f : Entry → ℕ) where
       let within : age < length (map f (take held (backwards es n))) = rw length-map (omega arith) in
       slice_get-get_or _ age (f d) within ∙ ap Some (get_or-map f _ age d (f d) (omega arith) ∙ ap f (get_or-take held (backwards es n) age d less ∙ aged es n age d whole h (omega arith)))
 
-  pub past_aged : (bs : List Entry) (held age : ℕ) → held ≤ age → slice_get (map f (take held bs)) age ≡ None
-  past_aged bs held age h = slice_get_past _ age (simp (length-map, length-take) (omega arith))
-
   -- the numbers in use after one more is remembered
   pub noted : (bs : List Entry) (x : Entry) (held m most : ℕ) → length bs ≡ 32 → held ≤ 32 → 1 ≤ most → most ≤ 32 → m ≡ min (held + 1) most → map f (take m (x ∷ take 31 bs)) ≡ take most (f x ∷ map f (take held bs))
   noted bs x held m zero long few least top e = absurd (omega arith)
@@ -79,3 +77,9 @@ module _ (f : Entry → ℕ) where
       ∙ ap (λ l. f x ∷ map f l) (take-take most 31 bs (omega arith) ∙ sym (take-take most held bs more))
       ∙ ap (λ l. f x ∷ l) (sym (take-map f most (take held bs))))
       (cases_lt held most)
+
+-- ---- the table
+
+-- the number of a given age, where so many are in use
+pub number_aged : (r : Recent) (age : ℕ) → age < r.held → slice_get (remembered r) age ≡ Some ((get_or r.entries ((r.next + 31 - age) % 32) (record { block = 0 })).block)
+number_aged r age less = read_aged (λ (e : Entry). e.block) r.entries r.next r.held age (record { block = 0 }) r.whole r.turns r.most less

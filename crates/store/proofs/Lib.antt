@@ -1,3 +1,4 @@
+pub mod Answering
 pub mod Cells
 pub mod Cutting
 pub mod Refusing

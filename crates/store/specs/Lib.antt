@@ -5,3 +5,4 @@ pub mod Directories
 pub mod Stores
 pub mod RowStores
 pub mod FlashStores
+pub mod Keeping

@@ -1,16 +1,15 @@
 // Where the blocks of a store end: at most 1,000 blocks, each of which ends 1 to 1,024 readings past the one before.
-ghost use Rattle.std.specs.Prelude.{◌≡◌, ◌≤◌, true, length, take};
+ghost use Rattle.std.specs.Prelude.{◌≡◌, true};
 ghost use Rattle.store.specs.Cuts.{rising};
+
+use arrayvec::ArrayVec;
 
 mod blocks;
 
 #[derive(Drop)]
 pub struct Directory {
-    ends: [u32; 1000],
-    held: u32,
-    ghost whole: { length ends ≡ 1000 },
-    ghost within: { held ≤ 1000 },
-    ghost rises: { rising 0 (take held ends) ≡ true },
+    ends: ArrayVec<u32, 1000>,
+    ghost rises: { rising 0 ends.items ≡ true },
 }
 
 // Where a block stands: its first reading, and the one past its last.

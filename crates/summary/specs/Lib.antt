@@ -6,3 +6,4 @@ pub mod Swings
 pub mod Values
 pub mod Laws
 pub mod Equal
+pub mod Printed

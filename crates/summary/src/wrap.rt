@@ -1,7 +1,8 @@
 // A number of 32 bits that is added with wrap, as lengths, places and counts of readings are.
+// It is no `Wrapping<u32>`: in a law that type's number is any number, also one past 32 bits, and nothing added to it would change it.
 ghost use Rattle.std.specs.Prelude.{◌^◌, ◌<◌};
 
-#[derive(Clone, Copy)]
+#[derive(Clone, Copy, PartialEq, Eq, Debug)]
 pub struct Wrap {
     pub value: u32,
     ghost fits: { value < 2 ^ 32 },

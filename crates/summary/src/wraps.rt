@@ -3,30 +3,24 @@ ghost use Rattle.std.specs.Prelude.{◌≡◌};
 ghost use Rattle.summary.specs.Wraps.{wrap, plus};
 
 use crate::wrap::Wrap;
+use std::ops::Add;
 
-fn held(value: u32) -> Wrap
-    ensures { result ≡ wrap value }
-{
-    Wrap { value }
-}
+impl From<u32> for Wrap {
+    ghost from_gives = { λ number made. made ≡ wrap number };
 
-fn sum(a: Wrap, b: Wrap) -> Wrap
-    ensures { result ≡ plus a b }
-{
-    let value = a.value.wrapping_add(b.value);
-    Wrap { value }
-}
-
-impl Wrap {
-    pub fn new(value: u32) -> Wrap
-        ensures { result ≡ wrap value }
-    {
-        held(value)
+    fn from(value: u32) -> Wrap {
+        Wrap { value }
     }
+}
 
-    pub fn plus(self, more: Wrap) -> Wrap
-        ensures { result ≡ plus self more }
-    {
-        sum(self, more)
+impl Add for Wrap {
+    type Output = Wrap;
+
+    ghost add_gives = { λ left right sum. sum ≡ plus left right };
+
+    fn add(self, more: Wrap) -> Wrap {
+        Wrap {
+            value: self.value.wrapping_add(more.value),
+        }
     }
 }

@@ -27,7 +27,7 @@ impl<Q: Summary + Copy> NodeTable<'_, Q> {
         version: u32,
         position: u32,
     ) -> Result<Answer<S::Reading>, ReadFault>
-        ensures law { ReadingTold Q.Summary.means S.BlockStore.rows S.BlockStore.refuses (archive_of self.now versions.now store.now) version position result }
+        ensures law { ReadingTold Q.Summary.means S.BlockStore (archive_of self.now versions.now store.now) version position result }
     {
         reading_in(self.lent(), versions, self.count, store, version, position)
     }
@@ -42,7 +42,7 @@ impl<Q: Summary + Copy> NodeTable<'_, Q> {
         out: &mut [S::Reading],
     ) -> Result<u32, ReadFault>
         ensures left { SpanLeft a b out.old result out.new }
-        ensures law { SpanTold Q.Summary.means S.BlockStore.rows S.BlockStore.refuses (archive_of self.now versions.now store.now) version a b out.old result out.new }
+        ensures law { SpanTold Q.Summary.means S.BlockStore (archive_of self.now versions.now store.now) version a b out.old result out.new }
     {
         span_in(self.lent(), versions, self.count, store, version, a, b, out)
     }
@@ -55,7 +55,7 @@ impl<Q: Summary + Copy> NodeTable<'_, Q> {
         a: u32,
         b: u32,
     ) -> Result<Q, ReadFault>
-        ensures law { SummaryTold Q.Summary.means S.BlockStore.rows S.BlockStore.refuses (archive_of self.now versions.now store.now) version a b result }
+        ensures law { SummaryTold Q.Summary.means S.BlockStore (archive_of self.now versions.now store.now) version a b result }
     {
         summary_in(self.lent(), versions, self.count, store, version, a, b)
     }

@@ -1,5 +1,6 @@
-// The calls of an archive. Versions and store come with each call; the nodes are the table's. An edit takes time in proportion to its path, and
-// to its row.
+// The calls of an archive. Versions and store come with each call, by the project's rule; the nodes are the table's. An edit takes time in proportion to
+// its path, and to its row. Each is thin over a function with the same promise: that has a proof written by hand, and a fault here is then refused for the
+// fact that fails.
 ghost use Rattle.std.specs.Prelude.{◌≡◌};
 ghost use Rattle.archive.specs.Beginning.{Begin};
 ghost use Rattle.archive.specs.Asking.{SpanLeft};
@@ -56,8 +57,8 @@ impl<Q: Summary + Copy> NodeTable<'_, Q> {
         level: u8,
         row: &[S::Reading],
     ) -> Result<Accepted, EditFault>
-        ensures kept { EditKept Q.Summary.means S.BlockStore.rows S.BlockStore.refuses (archive_of self.old versions.old store.old) (asked.Asked.insert base place level row.now) result (archive_of self.new versions.new store.new) }
-        ensures law { EditLaw Q.Summary.means S.BlockStore.rows S.BlockStore.refuses (archive_of self.old versions.old store.old) (asked.Asked.insert base place level row.now) result (archive_of self.new versions.new store.new) }
+        ensures kept { EditKept Q.Summary.means S.BlockStore (archive_of self.old versions.old store.old) (asked.Asked.insert base place level row.now) result (archive_of self.new versions.new store.new) }
+        ensures law { EditLaw Q.Summary.means S.BlockStore (archive_of self.old versions.old store.old) (asked.Asked.insert base place level row.now) result (archive_of self.new versions.new store.new) }
         ensures lender { self.new.nodes.ghost_name ≡ self.old.nodes.ghost_name }
     {
         self.insert_row(versions, store, base, place, level, row)
@@ -71,8 +72,8 @@ impl<Q: Summary + Copy> NodeTable<'_, Q> {
         base: u32,
         row: &[S::Reading],
     ) -> Result<Accepted, EditFault>
-        ensures kept { EditKept Q.Summary.means S.BlockStore.rows S.BlockStore.refuses (archive_of self.old versions.old store.old) (asked.Asked.append base row.now) result (archive_of self.new versions.new store.new) }
-        ensures law { EditLaw Q.Summary.means S.BlockStore.rows S.BlockStore.refuses (archive_of self.old versions.old store.old) (asked.Asked.append base row.now) result (archive_of self.new versions.new store.new) }
+        ensures kept { EditKept Q.Summary.means S.BlockStore (archive_of self.old versions.old store.old) (asked.Asked.append base row.now) result (archive_of self.new versions.new store.new) }
+        ensures law { EditLaw Q.Summary.means S.BlockStore (archive_of self.old versions.old store.old) (asked.Asked.append base row.now) result (archive_of self.new versions.new store.new) }
         ensures lender { self.new.nodes.ghost_name ≡ self.old.nodes.ghost_name }
     {
         self.append_row(versions, store, base, row)
@@ -87,8 +88,8 @@ impl<Q: Summary + Copy> NodeTable<'_, Q> {
         place: u32,
         row: &[S::Reading],
     ) -> Result<Accepted, EditFault>
-        ensures kept { EditKept Q.Summary.means S.BlockStore.rows S.BlockStore.refuses (archive_of self.old versions.old store.old) (asked.Asked.change base place row.now) result (archive_of self.new versions.new store.new) }
-        ensures law { EditLaw Q.Summary.means S.BlockStore.rows S.BlockStore.refuses (archive_of self.old versions.old store.old) (asked.Asked.change base place row.now) result (archive_of self.new versions.new store.new) }
+        ensures kept { EditKept Q.Summary.means S.BlockStore (archive_of self.old versions.old store.old) (asked.Asked.change base place row.now) result (archive_of self.new versions.new store.new) }
+        ensures law { EditLaw Q.Summary.means S.BlockStore (archive_of self.old versions.old store.old) (asked.Asked.change base place row.now) result (archive_of self.new versions.new store.new) }
         ensures lender { self.new.nodes.ghost_name ≡ self.old.nodes.ghost_name }
     {
         self.change_row(versions, store, base, place, row)
@@ -102,8 +103,8 @@ impl<Q: Summary + Copy> NodeTable<'_, Q> {
         base: u32,
         place: u32,
     ) -> Result<Accepted, EditFault>
-        ensures kept { EditKept Q.Summary.means S.BlockStore.rows S.BlockStore.refuses (archive_of self.old versions.old store.now) (asked.Asked.removal base place) result (archive_of self.new versions.new store.now) }
-        ensures law { EditLaw Q.Summary.means S.BlockStore.rows S.BlockStore.refuses (archive_of self.old versions.old store.now) (asked.Asked.removal base place) result (archive_of self.new versions.new store.now) }
+        ensures kept { EditKept Q.Summary.means S.BlockStore (archive_of self.old versions.old store.now) (asked.Asked.removal base place) result (archive_of self.new versions.new store.now) }
+        ensures law { EditLaw Q.Summary.means S.BlockStore (archive_of self.old versions.old store.now) (asked.Asked.removal base place) result (archive_of self.new versions.new store.now) }
         ensures lender { self.new.nodes.ghost_name ≡ self.old.nodes.ghost_name }
     {
         self.remove_block(versions, store, base, place)
@@ -117,7 +118,7 @@ impl<Q: Summary + Copy> NodeTable<'_, Q> {
         version: u32,
         position: u32,
     ) -> Result<Answer<S::Reading>, ReadFault>
-        ensures law { ReadingTold Q.Summary.means S.BlockStore.rows S.BlockStore.refuses (archive_of self.now versions.now store.now) version position result }
+        ensures law { ReadingTold Q.Summary.means S.BlockStore (archive_of self.now versions.now store.now) version position result }
     {
         self.read_one(versions, store, version, position)
     }
@@ -133,7 +134,7 @@ impl<Q: Summary + Copy> NodeTable<'_, Q> {
         out: &mut [S::Reading],
     ) -> Result<u32, ReadFault>
         ensures left { SpanLeft a b out.old result out.new }
-        ensures law { SpanTold Q.Summary.means S.BlockStore.rows S.BlockStore.refuses (archive_of self.now versions.now store.now) version a b out.old result out.new }
+        ensures law { SpanTold Q.Summary.means S.BlockStore (archive_of self.now versions.now store.now) version a b out.old result out.new }
     {
         self.copy_span(versions, store, version, a, b, out)
     }
@@ -147,7 +148,7 @@ impl<Q: Summary + Copy> NodeTable<'_, Q> {
         a: u32,
         b: u32,
     ) -> Result<Q, ReadFault>
-        ensures law { SummaryTold Q.Summary.means S.BlockStore.rows S.BlockStore.refuses (archive_of self.now versions.now store.now) version a b result }
+        ensures law { SummaryTold Q.Summary.means S.BlockStore (archive_of self.now versions.now store.now) version a b result }
     {
         self.sum_span(versions, store, version, a, b)
     }

@@ -41,8 +41,8 @@ impl<Q: Summary + Copy> NodeTable<'_, Q> {
         level: u8,
         row: &[S::Reading],
     ) -> Result<Accepted, EditFault>
-        ensures kept { EditKept Q.Summary.means S.BlockStore.rows S.BlockStore.refuses (archive_of self.old versions.old store.old) (asked.Asked.insert base place level row.now) result (archive_of self.new versions.new store.new) }
-        ensures law { EditLaw Q.Summary.means S.BlockStore.rows S.BlockStore.refuses (archive_of self.old versions.old store.old) (asked.Asked.insert base place level row.now) result (archive_of self.new versions.new store.new) }
+        ensures kept { EditKept Q.Summary.means S.BlockStore (archive_of self.old versions.old store.old) (asked.Asked.insert base place level row.now) result (archive_of self.new versions.new store.new) }
+        ensures law { EditLaw Q.Summary.means S.BlockStore (archive_of self.old versions.old store.old) (asked.Asked.insert base place level row.now) result (archive_of self.new versions.new store.new) }
         ensures lender { self.new.nodes.ghost_name ≡ self.old.nodes.ghost_name }
     {
         let used = self.used;
@@ -50,12 +50,10 @@ impl<Q: Summary + Copy> NodeTable<'_, Q> {
         if count <= base {
             return Err(EditFault::Version);
         }
-        match insert_in(
+        let built = insert_in(
             self.nodes, used, versions, count, store, base, place, level, row,
-        ) {
-            Err(fault) => Err(fault),
-            Ok(built) => Ok(self.take_in(built)),
-        }
+        )?;
+        Ok(self.take_in(built))
     }
 
     // The base's blocks are counted in its record.
@@ -66,14 +64,12 @@ impl<Q: Summary + Copy> NodeTable<'_, Q> {
         base: u32,
         row: &[S::Reading],
     ) -> Result<Accepted, EditFault>
-        ensures kept { EditKept Q.Summary.means S.BlockStore.rows S.BlockStore.refuses (archive_of self.old versions.old store.old) (asked.Asked.append base row.now) result (archive_of self.new versions.new store.new) }
-        ensures law { EditLaw Q.Summary.means S.BlockStore.rows S.BlockStore.refuses (archive_of self.old versions.old store.old) (asked.Asked.append base row.now) result (archive_of self.new versions.new store.new) }
+        ensures kept { EditKept Q.Summary.means S.BlockStore (archive_of self.old versions.old store.old) (asked.Asked.append base row.now) result (archive_of self.new versions.new store.new) }
+        ensures law { EditLaw Q.Summary.means S.BlockStore (archive_of self.old versions.old store.old) (asked.Asked.append base row.now) result (archive_of self.new versions.new store.new) }
         ensures lender { self.new.nodes.ghost_name ≡ self.old.nodes.ghost_name }
     {
-        match version_at(versions, self.count, base) {
-            None => Err(EditFault::Version),
-            Some(from) => self.insert_row(versions, store, base, from.blocks, 0, row),
-        }
+        let from = version_at(versions, self.count, base).ok_or(EditFault::Version)?;
+        self.insert_row(versions, store, base, from.blocks, 0, row)
     }
 
     pub(super) fn change_row<S: BlockStore<Reading = Q::Reading>>(
@@ -84,8 +80,8 @@ impl<Q: Summary + Copy> NodeTable<'_, Q> {
         place: u32,
         row: &[S::Reading],
     ) -> Result<Accepted, EditFault>
-        ensures kept { EditKept Q.Summary.means S.BlockStore.rows S.BlockStore.refuses (archive_of self.old versions.old store.old) (asked.Asked.change base place row.now) result (archive_of self.new versions.new store.new) }
-        ensures law { EditLaw Q.Summary.means S.BlockStore.rows S.BlockStore.refuses (archive_of self.old versions.old store.old) (asked.Asked.change base place row.now) result (archive_of self.new versions.new store.new) }
+        ensures kept { EditKept Q.Summary.means S.BlockStore (archive_of self.old versions.old store.old) (asked.Asked.change base place row.now) result (archive_of self.new versions.new store.new) }
+        ensures law { EditLaw Q.Summary.means S.BlockStore (archive_of self.old versions.old store.old) (asked.Asked.change base place row.now) result (archive_of self.new versions.new store.new) }
         ensures lender { self.new.nodes.ghost_name ≡ self.old.nodes.ghost_name }
     {
         let used = self.used;
@@ -93,10 +89,8 @@ impl<Q: Summary + Copy> NodeTable<'_, Q> {
         if count <= base {
             return Err(EditFault::Version);
         }
-        match change_in(self.nodes, used, versions, count, store, base, place, row) {
-            Err(fault) => Err(fault),
-            Ok(built) => Ok(self.take_in(built)),
-        }
+        let built = change_in(self.nodes, used, versions, count, store, base, place, row)?;
+        Ok(self.take_in(built))
     }
 
     pub(super) fn remove_block<S: BlockStore<Reading = Q::Reading>>(
@@ -106,8 +100,8 @@ impl<Q: Summary + Copy> NodeTable<'_, Q> {
         base: u32,
         place: u32,
     ) -> Result<Accepted, EditFault>
-        ensures kept { EditKept Q.Summary.means S.BlockStore.rows S.BlockStore.refuses (archive_of self.old versions.old store.now) (asked.Asked.removal base place) result (archive_of self.new versions.new store.now) }
-        ensures law { EditLaw Q.Summary.means S.BlockStore.rows S.BlockStore.refuses (archive_of self.old versions.old store.now) (asked.Asked.removal base place) result (archive_of self.new versions.new store.now) }
+        ensures kept { EditKept Q.Summary.means S.BlockStore (archive_of self.old versions.old store.now) (asked.Asked.removal base place) result (archive_of self.new versions.new store.now) }
+        ensures law { EditLaw Q.Summary.means S.BlockStore (archive_of self.old versions.old store.now) (asked.Asked.removal base place) result (archive_of self.new versions.new store.now) }
         ensures lender { self.new.nodes.ghost_name ≡ self.old.nodes.ghost_name }
     {
         let used = self.used;
@@ -115,9 +109,7 @@ impl<Q: Summary + Copy> NodeTable<'_, Q> {
         if count <= base {
             return Err(EditFault::Version);
         }
-        match removal_in(self.nodes, used, versions, count, store, base, place) {
-            Err(fault) => Err(fault),
-            Ok(built) => Ok(self.take_in(built)),
-        }
+        let built = removal_in(self.nodes, used, versions, count, store, base, place)?;
+        Ok(self.take_in(built))
     }
 }

@@ -1,112 +1,119 @@
-// Versions as plain lists of parts of the readings beside a table of calls: all parts of all versions, in order.
-use super::call::Call;
-use reading::Reading;
+// Versions as plain lists of blocks, each a part of the readings beside a table of calls.
+use archive::Kind;
+use runs::Call;
 use std::alloc::{AllocError, Global};
+use std::test::Fail;
 
+// So many readings, from a place on.
 #[derive(Clone, Copy)]
 pub struct Part {
-    pub version: u32,
     pub from: usize,
     pub len: usize,
 }
 
-// So many readings from a place on; none where they pass the end.
-pub(super) fn cut<R>(readings: &[R], from: usize, len: usize) -> &[R] {
-    if from <= readings.len() && len <= readings.len() - from {
-        &readings[from..from + len]
-    } else {
-        &readings[0..0]
+impl Part {
+    // The readings that it names; none where they pass the end.
+    pub(super) fn of<R>(self, readings: &[R]) -> &[R] {
+        readings
+            .get(self.from..self.from.saturating_add(self.len))
+            .unwrap_or(&[])
     }
 }
 
-pub(super) fn filled<T: Copy>(heap: Global, x: T, n: usize) -> Result<Vec<T>, AllocError> {
-    let mut all = Vec::new(heap);
-    for _ in 0..n {
-        all.push(x)?;
-    }
-    Ok(all)
+// An edit of a base, by whichever call: an append is an insert at the end, of level 0.
+#[derive(Clone, Copy)]
+pub struct Edit {
+    pub base: u32,
+    pub kind: Kind,
+    pub place: u32,
+    pub level: u8,
+    // The row that it puts; none of a removal.
+    pub row: Option<Part>,
 }
 
-// How many blocks a version has.
-pub(super) fn blocks_of(parts: &[Part], version: u32) -> u32 {
-    let mut n = 0u32;
-    for part in parts {
-        if part.version == version {
-            n = n.wrapping_add(1);
-        }
-    }
-    n
-}
-
-// The base's parts with an edit at a place: up to `gone` parts go there, and a row of `len` readings comes where it has any.
-fn edit(
+// The blocks of each version, by its number.
+#[derive(Drop)]
+pub struct Lists {
     heap: Global,
-    parts: &mut Vec<Part>,
-    version: u32,
-    base: u32,
-    place: u32,
-    gone: u32,
-    from: usize,
-    len: usize,
-) -> Result<(), AllocError> {
-    let mut next: Vec<Part> = Vec::new(heap);
-    let mut at = 0u32;
-    for part in parts.iter() {
-        if part.version == base {
-            if at == place && len > 0 {
-                next.push(Part { version, from, len })?;
+    lists: Vec<Vec<Part>>,
+}
+
+impl Lists {
+    // Version 0 has no block.
+    pub(super) fn begin(heap: Global) -> Result<Lists, AllocError> {
+        let lists = vec![in heap; Vec::new(heap)]?;
+        Ok(Lists { heap, lists })
+    }
+
+    pub(super) fn blocks(&self, version: u32) -> &[Part] {
+        self.lists
+            .get(version as usize)
+            .map_or(&[], |list| list.as_slice())
+    }
+
+    pub(super) fn count(&self, version: u32) -> u32 {
+        u32::try_from(self.blocks(version).len()).unwrap_or(u32::MAX)
+    }
+
+    // The edit that a call asks for; none where it is a question.
+    pub(super) fn edit(&self, call: Call) -> Option<Edit> {
+        let (base, kind, place, level, row) = match call {
+            Call::Insert {
+                base,
+                place,
+                level,
+                from,
+                len,
+            } => (base, Kind::Insert, place, level, Some(Part { from, len })),
+            Call::Append { base, from, len } => {
+                let row = Some(Part { from, len });
+                (base, Kind::Insert, self.count(base), 0, row)
             }
-            if at != place || gone == 0 {
-                next.push(Part {
-                    version,
-                    from: part.from,
-                    len: part.len,
-                })?;
-            }
-            at = at.wrapping_add(1);
-        }
+            Call::Change {
+                base,
+                place,
+                from,
+                len,
+            } => (base, Kind::Change, place, 0, Some(Part { from, len })),
+            Call::Remove { base, place } => (base, Kind::Removal, place, 0, None),
+            _ => return None,
+        };
+        Some(Edit {
+            base,
+            kind,
+            place,
+            level,
+            row,
+        })
     }
-    if at == place && len > 0 {
-        next.push(Part { version, from, len })?;
-    }
-    parts.extend_from_slice(&next)
-}
 
-// The parts after a call that made a version.
-pub(super) fn follow(
-    heap: Global,
-    parts: &mut Vec<Part>,
-    version: u32,
-    call: Call,
-) -> Result<(), AllocError> {
-    match call {
-        Call::Insert(base, place, _, from, len) => {
-            edit(heap, parts, version, base, place, 0, from, len)
-        }
-        Call::Append(base, from, len) => {
-            let place = blocks_of(parts, base);
-            edit(heap, parts, version, base, place, 0, from, len)
-        }
-        Call::Change(base, place, from, len) => {
-            edit(heap, parts, version, base, place, 1, from, len)
-        }
-        Call::Remove(base, place) => edit(heap, parts, version, base, place, 1, 0, 0),
-        _ => Ok(()),
+    // A further version, by an edit.
+    pub(super) fn follow(&mut self, edit: Edit) -> Result<(), Fail> {
+        let base = self.blocks(edit.base);
+        let (before, at) = base
+            .split_at_checked(edit.place as usize)
+            .ok_or("no such place")?;
+        let after = match edit.kind {
+            Kind::Insert => at,
+            _ => at.get(1..).ok_or("no such block")?,
+        };
+        let mut list = before.to_vec(self.heap)?;
+        list.extend(edit.row)?;
+        list.extend_from_slice(after)?;
+        self.lists.push(list)?;
+        Ok(())
     }
-}
 
-// A version's readings.
-pub(super) fn flat<R: Reading>(
-    heap: Global,
-    parts: &[Part],
-    version: u32,
-    readings: &[R],
-) -> Result<Vec<R>, AllocError> {
-    let mut all = Vec::new(heap);
-    for part in parts {
-        if part.version == version {
-            all.extend_from_slice(cut(readings, part.from, part.len))?;
-        }
+    // A version's readings.
+    pub(super) fn readings<R: Copy>(
+        &self,
+        version: u32,
+        readings: &[R],
+    ) -> Result<Vec<R>, AllocError> {
+        self.blocks(version)
+            .iter()
+            .flat_map(|part| part.of(readings))
+            .copied()
+            .collect(self.heap)
     }
-    Ok(all)
 }

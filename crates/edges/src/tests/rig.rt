@@ -1,15 +1,19 @@
 // What runs a table of calls, and compares the archive with plain lists.
-use super::call::Call;
-use super::plain::{Part, blocks_of, cut, filled, flat, follow};
-use super::told::{Told, edited, free_node, free_record, node_told, record_told, unread, word};
+use super::free::{free_node, free_record};
+use super::outcome::Outcome;
+use super::plain::{Edit, Lists, Part};
 use archive::{NodeTable, Version};
 use nodes::Node;
-use reading::Reading;
-use std::alloc::Global;
+use runs::Call;
+use std::alloc::{AllocError, Global};
+use std::fmt::Debug;
 use std::process::Abort;
 use std::test::Fail;
 use store::BlockStore;
 use summary::{Summary, summary_of};
+
+// How many readings the output of a table's spans has; a span goes to its end.
+pub const OUTPUT: usize = 1100;
 
 // How long the tables are.
 #[derive(Clone, Copy)]
@@ -18,402 +22,373 @@ pub struct Size {
     pub versions: usize,
 }
 
-// A span into an output of so many marks: what is answered, with every entry that is not written still a mark.
-fn spanned<S: BlockStore, Q: Summary<Reading = S::Reading> + Copy>(
-    rt: &impl Abort,
-    table: &NodeTable<'_, Q>,
-    versions: &[Version],
-    store: &S,
-    version: u32,
-    a: u32,
-    b: u32,
-    mark: S::Reading,
-    out: &mut [S::Reading],
-) -> Result<[u32; 3], Fail> {
-    let answer = match table.span(versions, store, version, a, b, out) {
-        Ok(n) => [0, n, 0],
-        Err(fault) => unread(fault),
-    };
-    for x in out.iter().skip(answer[1] as usize) {
-        assert!(rt; x.same(&mark));
-    }
-    Ok(answer)
+// How many nodes, versions and blocks are in use.
+#[derive(Clone, Copy, PartialEq, Eq, Debug)]
+pub struct Ends {
+    pub nodes: u32,
+    pub versions: u32,
+    pub blocks: u32,
 }
 
-// Carries out a call. A reading is answered with its path, a span with its count, a summary with two of its numbers.
-pub(super) fn carry<S: BlockStore, Q: Summary<Reading = S::Reading> + Copy + Told>(
-    rt: &impl Abort,
+// The tables that an archive is begun in.
+#[derive(Drop)]
+pub struct Tables<Q> {
+    pub nodes: Vec<Node<Q>>,
+    pub versions: Vec<Version>,
+}
+
+impl<Q: Summary + Copy> Tables<Q> {
+    pub(super) fn free(heap: Global, size: Size) -> Result<Tables<Q>, AllocError> {
+        let nodes = vec![in heap; free_node(); size.nodes]?;
+        let versions = vec![in heap; free_record(); size.versions]?;
+        Ok(Tables { nodes, versions })
+    }
+}
+
+// An archive under test, and the readings that calls name their rows in.
+#[derive(Drop)]
+pub struct Rig<'a, S: BlockStore, Q> {
     heap: Global,
-    table: &mut NodeTable<'_, Q>,
-    versions: &mut [Version],
-    store: &mut S,
-    readings: &[S::Reading],
+    table: NodeTable<'a, Q>,
+    versions: &'a mut [Version],
+    store: &'a mut S,
+    readings: &'a [S::Reading],
+    // What an output is full of before a span.
     mark: S::Reading,
-    call: Call,
-) -> Result<[u32; 3], Fail> {
-    match call {
-        Call::Insert(base, place, level, from, len) => {
-            let row = cut(readings, from, len);
-            Ok(edited(table.insert(versions, store, base, place, level, row)))
+}
+
+impl<'a, S: BlockStore, Q: Summary<Reading = S::Reading> + Copy + PartialEq + Debug> Rig<'a, S, Q> {
+    // The two vectors come apart: the check does not lend two fields of a struct behind one reference at once.
+    pub(super) fn begin(
+        heap: Global,
+        nodes: &'a mut [Node<Q>],
+        versions: &'a mut [Version],
+        store: &'a mut S,
+        readings: &'a [S::Reading],
+    ) -> Result<Rig<'a, S, Q>, Fail> {
+        let mark = *readings.first().ok_or("no readings")?;
+        let table = NodeTable::begin(nodes, versions);
+        Ok(Rig {
+            heap,
+            table,
+            versions,
+            store,
+            readings,
+            mark,
+        })
+    }
+}
+
+impl<S: BlockStore, Q: Summary<Reading = S::Reading> + Copy + PartialEq + Debug> Rig<'_, S, Q> {
+    pub(super) fn ends(&self) -> Ends {
+        Ends {
+            nodes: self.table.used(),
+            versions: self.table.count(),
+            blocks: self.store.count(),
         }
-        Call::Append(base, from, len) => {
-            let row = cut(readings, from, len);
-            Ok(edited(table.append(versions, store, base, row)))
+    }
+
+    // A span: what is answered, with every entry of the output that is not written still a mark.
+    fn span(
+        &self,
+        rt: &impl Abort,
+        version: u32,
+        a: u32,
+        b: u32,
+        out: &mut [S::Reading],
+    ) -> Outcome {
+        let answer = self
+            .table
+            .span(self.versions, self.store, version, a, b, out);
+        for x in out.iter().skip(answer.unwrap_or(0) as usize) {
+            assert!(rt; *x == self.mark);
         }
-        Call::Change(base, place, from, len) => {
-            let row = cut(readings, from, len);
-            Ok(edited(table.change(versions, store, base, place, row)))
-        }
-        Call::Remove(base, place) => Ok(edited(table.remove(versions, store, base, place))),
-        Call::Reading(version, position) => {
-            match table.reading(versions, store, version, position) {
-                Ok(answer) => Ok([0, answer.path, 0]),
-                Err(fault) => Ok(unread(fault)),
+        answer.into()
+    }
+
+    fn insert(&mut self, base: u32, place: u32, level: u8, row: Part) -> Outcome {
+        let row = row.of(self.readings);
+        self.table
+            .insert(self.versions, self.store, base, place, level, row)
+            .into()
+    }
+
+    fn append(&mut self, base: u32, row: Part) -> Outcome {
+        let row = row.of(self.readings);
+        self.table
+            .append(self.versions, self.store, base, row)
+            .into()
+    }
+
+    fn change(&mut self, base: u32, place: u32, row: Part) -> Outcome {
+        let row = row.of(self.readings);
+        self.table
+            .change(self.versions, self.store, base, place, row)
+            .into()
+    }
+
+    fn remove(&mut self, base: u32, place: u32) -> Outcome {
+        self.table
+            .remove(self.versions, self.store, base, place)
+            .into()
+    }
+
+    fn reading(&self, version: u32, position: u32) -> Outcome {
+        self.table
+            .reading(self.versions, self.store, version, position)
+            .map(|answer| answer.path)
+            .into()
+    }
+
+    fn summary(&self, version: u32, a: u32, b: u32) -> Outcome {
+        self.table
+            .summary(self.versions, self.store, version, a, b)
+            .map(|_| 0)
+            .into()
+    }
+
+    fn carry(&mut self, rt: &impl Abort, call: Call) -> Result<Outcome, AllocError> {
+        Ok(match call {
+            Call::Insert {
+                base,
+                place,
+                level,
+                from,
+                len,
+            } => self.insert(base, place, level, Part { from, len }),
+            Call::Append { base, from, len } => self.append(base, Part { from, len }),
+            Call::Change {
+                base,
+                place,
+                from,
+                len,
+            } => self.change(base, place, Part { from, len }),
+            Call::Remove { base, place } => self.remove(base, place),
+            Call::Reading { version, position } => self.reading(version, position),
+            Call::Span { version, a, b, to } => {
+                let mut out = vec![in self.heap; self.mark; OUTPUT.saturating_sub(to)]?;
+                self.span(rt, version, a, b, &mut out)
             }
-        }
-        Call::Span(version, a, b, room) => {
-            let mut out = filled(heap, mark, room)?;
-            spanned(rt, table, versions, store, version, a, b, mark, &mut out)
-        }
-        Call::Summary(version, a, b) => match table.summary(versions, store, version, a, b) {
-            Ok(sum) => {
-                let numbers = sum.told();
-                Ok([0, numbers[0], numbers[1]])
-            }
-            Err(fault) => Ok(unread(fault)),
-        },
+            Call::Summary { version, a, b } => self.summary(version, a, b),
+        })
     }
-}
 
-// Where a table of calls leaves open how many nodes are written.
-pub const ANY: u32 = u32::MAX;
-
-fn meant(wanted: [u32; 3], answer: [u32; 3]) -> [u32; 3] {
-    if wanted[2] == ANY {
-        [wanted[0], wanted[1], answer[2]]
-    } else {
-        wanted
+    // A call, answered as wanted; a failure tells which call it is.
+    pub(super) fn answers(
+        &mut self,
+        rt: &impl Abort,
+        call: Call,
+        wanted: Outcome,
+        at: usize,
+    ) -> Result<Outcome, AllocError> {
+        let answer = self.carry(rt, call)?;
+        assert_eq!(rt; answer.as_far_as(wanted), wanted, "{at}");
+        Ok(answer)
     }
-}
 
-// The first five numbers that the record of an accepted edit has; none for a question.
-fn recorded(call: Call, place: u32, written: u32) -> Option<[u32; 5]> {
-    match call {
-        Call::Insert(base, place, level, _, _) => Some([base, 2, place, u32::from(level), written]),
-        Call::Append(base, _, _) => Some([base, 2, place, 0, written]),
-        Call::Change(base, place, _, _) => Some([base, 3, place, 0, written]),
-        Call::Remove(base, place) => Some([base, 4, place, 0, written]),
-        _ => None,
+    fn record(&self, version: u32) -> Result<Version, Fail> {
+        let record = self.versions.get(version as usize).ok_or("no record")?;
+        Ok(*record)
     }
-}
 
-// The length of an edit's row; 0 where it has none.
-fn row_len(call: Call) -> usize {
-    match call {
-        Call::Insert(_, _, _, _, len) => len,
-        Call::Append(_, _, len) => len,
-        Call::Change(_, _, _, len) => len,
-        _ => 0,
-    }
-}
-
-fn base_of(call: Call) -> u32 {
-    match call {
-        Call::Insert(base, _, _, _, _) => base,
-        Call::Append(base, _, _) => base,
-        Call::Change(base, _, _, _) => base,
-        Call::Remove(base, _) => base,
-        _ => 0,
-    }
-}
-
-// The new version's record says what the call was; its block is the row's, or 0.
-fn noted<S: BlockStore>(
-    rt: &impl Abort,
-    versions: &[Version],
-    store: &S,
-    parts: &[Part],
-    call: Call,
-    at: u32,
-    answer: [u32; 3],
-) -> Result<(), Fail> {
-    let place = blocks_of(parts, base_of(call));
-    let Some(wanted) = recorded(call, place, answer[2]) else {
-        return Ok(());
-    };
-    let Some(version) = versions.get(answer[1] as usize) else {
-        return Err(Fail::new("no record"));
-    };
-    let (first, _) = record_told(version);
-    assert_eq!(rt; first, wanted, "{}", at);
-    let len = row_len(call);
-    if len == 0 {
-        assert_eq!(rt; version.block, 0, "{}", at);
-        Ok(())
-    } else {
-        assert_eq!(rt;
-            store.block_len(version.block).unwrap_or(0) as usize,
-            len,
-            "{}",
-            at
-        );
-        Ok(())
-    }
-}
-
-// A version's readings, one by one, against its list.
-fn readings_agree<S: BlockStore, Q: Summary<Reading = S::Reading> + Copy>(
-    rt: &impl Abort,
-    table: &NodeTable<'_, Q>,
-    versions: &[Version],
-    store: &S,
-    version: u32,
-    list: &[S::Reading],
-) -> Result<(), Fail> {
-    let mut at = 0u32;
-    for x in list {
-        let Ok(answer) = table.reading(versions, store, version, at) else {
-            return Err(Fail::new("a reading is refused"));
+    // The new version's record says what the edit was; its block is the row's, or 0.
+    fn noted(
+        &self,
+        rt: &impl Abort,
+        edit: Edit,
+        version: u32,
+        written: Option<u32>,
+        at: usize,
+    ) -> Result<(), Fail> {
+        let record = self.record(version)?;
+        let wanted = Version {
+            parent: edit.base,
+            edit: edit.kind,
+            place: edit.place,
+            level: edit.level,
+            ..record
         };
-        assert_eq!(rt; word(answer.reading), word(*x));
-        at = at.wrapping_add(1);
-    }
-    Ok(())
-}
-
-// The span over a whole version against its list; the output is as long.
-fn span_agrees<S: BlockStore, Q: Summary<Reading = S::Reading> + Copy>(
-    rt: &impl Abort,
-    table: &NodeTable<'_, Q>,
-    versions: &[Version],
-    store: &S,
-    version: u32,
-    n: u32,
-    mark: S::Reading,
-    list: &[S::Reading],
-    out: &mut [S::Reading],
-) -> Result<(), Fail> {
-    let answer = spanned(rt, table, versions, store, version, 0, n, mark, out)?;
-    assert_eq!(rt; answer, [0, n, 0]);
-    for (x, y) in out.iter().zip(list.iter()) {
-        assert!(rt; x.same(y));
-    }
-    Ok(())
-}
-
-// The summary of one stretch against its list.
-fn sum_agrees<S: BlockStore, Q: Summary<Reading = S::Reading> + Copy + Told>(
-    rt: &impl Abort,
-    table: &NodeTable<'_, Q>,
-    versions: &[Version],
-    store: &S,
-    version: u32,
-    a: u32,
-    b: u32,
-    list: &[S::Reading],
-) -> Result<(), Fail> {
-    let Ok(sum) = table.summary(versions, store, version, a, b) else {
-        return Err(Fail::new("a summary is refused"));
-    };
-    let whole: Q = summary_of(cut(list, a as usize, b.saturating_sub(a) as usize));
-    assert_eq!(rt; sum.told(), whole.told());
-    Ok(())
-}
-
-// The summary of every stretch whose ends are multiples of `step`.
-fn sums_agree<S: BlockStore, Q: Summary<Reading = S::Reading> + Copy + Told>(
-    rt: &impl Abort,
-    table: &NodeTable<'_, Q>,
-    versions: &[Version],
-    store: &S,
-    version: u32,
-    n: u32,
-    list: &[S::Reading],
-    step: u32,
-) -> Result<(), Fail> {
-    for a in 0..n.saturating_add(1) {
-        for b in a..n.saturating_add(1) {
-            if step > 0 && a % step == 0 && b % step == 0 {
-                sum_agrees(rt, table, versions, store, version, a, b, list)?;
+        assert_eq!(rt; record, wanted, "{at}");
+        assert_eq!(rt; Some(record.written), written, "{at}");
+        match edit.row {
+            None => assert_eq!(rt; record.block, 0, "{at}"),
+            Some(row) => {
+                let len = self.store.block_len(record.block).unwrap_or(0);
+                assert_eq!(rt; len as usize, row.len, "{at}");
             }
         }
+        Ok(())
     }
-    Ok(())
-}
 
-// A version against its list: every reading, the span over all, and the summary of every stretch whose ends are multiples of `step`.
-pub(super) fn agree<S: BlockStore, Q: Summary<Reading = S::Reading> + Copy + Told>(
-    rt: &impl Abort,
-    heap: Global,
-    table: &NodeTable<'_, Q>,
-    versions: &[Version],
-    store: &S,
-    version: u32,
-    mark: S::Reading,
-    list: &[S::Reading],
-    step: u32,
-) -> Result<(), Fail> {
-    assert!(rt; list.len() < 1_000_000);
-    let n = list.len() as u32;
-    readings_agree(rt, table, versions, store, version, list)?;
-    sums_agree(rt, table, versions, store, version, n, list, step)?;
-    let mut out = filled(heap, mark, list.len())?;
-    span_agrees(rt, table, versions, store, version, n, mark, list, &mut out)
-}
-
-// One call of a table: its answer as wanted, and the new version's record.
-fn one_call<S: BlockStore, Q: Summary<Reading = S::Reading> + Copy + Told>(
-    rt: &impl Abort,
-    heap: Global,
-    table: &mut NodeTable<'_, Q>,
-    versions: &mut [Version],
-    store: &mut S,
-    readings: &[S::Reading],
-    mark: S::Reading,
-    parts: &[Part],
-    call: Call,
-    wanted: [u32; 3],
-    at: u32,
-) -> Result<[u32; 3], Fail> {
-    let answer = carry(rt, heap, table, versions, store, readings, mark, call)?;
-    assert_eq!(rt; answer, meant(wanted, answer), "{}", at);
-    if answer[0] == 0 {
-        noted(rt, versions, store, parts, call, at, answer)?;
+    // A version's readings, one by one, against its list.
+    fn readings_agree(
+        &self,
+        rt: &impl Abort,
+        version: u32,
+        n: u32,
+        list: &[S::Reading],
+    ) -> Result<(), Fail> {
+        for (position, x) in (0..n).zip(list) {
+            let answer = self
+                .table
+                .reading(self.versions, self.store, version, position)?;
+            assert!(rt; answer.reading == *x, "{version}: {position}");
+        }
+        Ok(())
     }
-    Ok(answer)
-}
 
-// A version's record and all that it answers, against its list.
-fn holds<S: BlockStore, Q: Summary<Reading = S::Reading> + Copy + Told>(
-    rt: &impl Abort,
-    heap: Global,
-    table: &NodeTable<'_, Q>,
-    versions: &[Version],
-    store: &S,
-    version: u32,
-    mark: S::Reading,
-    list: &[S::Reading],
-    blocks: u32,
-) -> Result<(), Fail> {
-    let step = if list.len() > 100 { 64 } else { 1 };
-    agree(rt, heap, table, versions, store, version, mark, list, step)?;
-    let Some(record) = versions.get(version as usize) else {
-        return Err(Fail::new("no record"));
-    };
-    assert_eq!(rt; record.blocks, blocks, "{}", version);
-    assert_eq!(rt; record.readings as usize, list.len(), "{}", version);
-    Ok(())
-}
+    // The span over a whole version against its list; the output is as long.
+    fn span_agrees(
+        &self,
+        rt: &impl Abort,
+        version: u32,
+        n: u32,
+        list: &[S::Reading],
+    ) -> Result<(), Fail> {
+        let mut out = vec![in self.heap; self.mark; list.len()]?;
+        assert_eq!(rt; self.span(rt, version, 0, n, &mut out), Outcome::Told(n));
+        assert!(rt; out.as_slice() == list);
+        Ok(())
+    }
 
-// Runs the calls, or only those that are to be accepted, and then holds every version to its list.
-fn play<S: BlockStore, Q: Summary<Reading = S::Reading> + Copy + Told>(
-    rt: &impl Abort,
-    heap: Global,
-    nodes: &mut [Node<Q>],
-    versions: &mut [Version],
-    store: &mut S,
-    readings: &[S::Reading],
-    mark: S::Reading,
-    calls: &[(Call, [u32; 3])],
-    all: bool,
-) -> Result<[u32; 3], Fail> {
-    let mut parts: Vec<Part> = Vec::new(heap);
-    let mut table = NodeTable::begin(nodes, versions);
-    let mut at = 0u32;
-    for (call, wanted) in calls {
-        if all || wanted[0] == 0 {
-            let answer = one_call(
-                rt, heap, &mut table, versions, store, readings, mark, &parts, *call, *wanted, at,
-            )?;
-            if answer[0] == 0 {
-                follow(heap, &mut parts, answer[1], *call)?;
+    // The summary of one stretch against its list.
+    fn sum_agrees(
+        &self,
+        rt: &impl Abort,
+        version: u32,
+        a: u32,
+        b: u32,
+        list: &[S::Reading],
+    ) -> Result<(), Fail> {
+        let sum = self
+            .table
+            .summary(self.versions, self.store, version, a, b)?;
+        let stretch = list.get(a as usize..b as usize).ok_or("no such stretch")?;
+        assert_eq!(rt; sum, summary_of(stretch));
+        Ok(())
+    }
+
+    // A version against its list: every reading, the span over all, and the summary of every stretch whose ends are multiples of `step`.
+    pub(super) fn agree(
+        &self,
+        rt: &impl Abort,
+        version: u32,
+        list: &[S::Reading],
+        step: u32,
+    ) -> Result<(), Fail> {
+        let n = u32::try_from(list.len()).ok().ok_or("a long list")?;
+        self.readings_agree(rt, version, n, list)?;
+        self.span_agrees(rt, version, n, list)?;
+        let ends = n.checked_div(step).ok_or("no step")?;
+        for a in 0..=ends {
+            for b in a..=ends {
+                self.sum_agrees(rt, version, a * step, b * step, list)?;
             }
         }
-        at = at.wrapping_add(1);
+        Ok(())
     }
-    let count = table.count();
-    for version in 0..count {
-        let list = flat(heap, &parts, version, readings)?;
-        let blocks = blocks_of(&parts, version);
-        holds(
-            rt, heap, &table, versions, store, version, mark, &list, blocks,
-        )?;
+
+    // A version's record and all that it answers, against its list.
+    fn holds(&self, rt: &impl Abort, lists: &Lists, version: u32) -> Result<(), Fail> {
+        let list = lists.readings(version, self.readings)?;
+        let step = if list.len() > 100 { 64 } else { 1 };
+        self.agree(rt, version, &list, step)?;
+        let record = self.record(version)?;
+        assert_eq!(rt; record.blocks, lists.count(version), "{version}");
+        assert_eq!(rt; record.readings as usize, list.len(), "{version}");
+        Ok(())
     }
-    Ok([table.used(), count, store.count()])
+
+    // One call of a table: its answer as wanted, and the new version's record.
+    fn step(
+        &mut self,
+        rt: &impl Abort,
+        lists: &mut Lists,
+        call: Call,
+        wanted: Outcome,
+        at: usize,
+    ) -> Result<(), Fail> {
+        let answer = self.answers(rt, call, wanted, at)?;
+        if let (Outcome::Accepted(version, written), Some(edit)) = (answer, lists.edit(call)) {
+            self.noted(rt, edit, version, written, at)?;
+            lists.follow(edit)?;
+        }
+        Ok(())
+    }
+
+    // Runs the calls, and then holds every version to its list.
+    fn play(&mut self, rt: &impl Abort, calls: &[(Call, Outcome)]) -> Result<Ends, Fail> {
+        let mut lists = Lists::begin(self.heap)?;
+        for (at, (call, wanted)) in calls.iter().enumerate() {
+            self.step(rt, &mut lists, *call, *wanted, at)?;
+        }
+        let ends = self.ends();
+        for version in 0..ends.versions {
+            self.holds(rt, &lists, version)?;
+        }
+        Ok(ends)
+    }
 }
 
 // The same entries, of which those not in use are as they were found.
-fn same_nodes<Q: Summary + Copy + Told>(
+fn same<T: Copy + PartialEq + Debug>(
     rt: &impl Abort,
-    nodes: &[Node<Q>],
-    others: &[Node<Q>],
+    entries: &[T],
+    others: &[T],
     used: u32,
+    free: T,
 ) {
-    let mut at = 0u32;
-    for (x, y) in nodes.iter().zip(others.iter()) {
-        let told = node_told(x);
-        assert_eq!(rt; told, node_told(y));
-        if at >= used {
-            assert_eq!(rt; told, node_told(&free_node::<Q>()));
-        }
-        at = at.wrapping_add(1);
-    }
-}
-
-fn same_records(rt: &impl Abort, versions: &[Version], others: &[Version], count: u32) {
-    let mut at = 0u32;
-    for (x, y) in versions.iter().zip(others.iter()) {
-        let told = record_told(x);
-        assert_eq!(rt; told, record_told(y));
-        if at >= count {
-            assert_eq!(rt; told, record_told(&free_record()));
-        }
-        at = at.wrapping_add(1);
+    assert_eq!(rt; entries, others);
+    for entry in entries.iter().skip(used as usize) {
+        assert_eq!(rt; *entry, free);
     }
 }
 
 // The calls on one archive, and the accepted ones alone on another: both end alike, and the free entries of the tables are as they were
 // found. Answers how many nodes, versions and blocks are in use then.
-pub(super) fn trial<S: BlockStore + Drop, Q: Summary<Reading = S::Reading> + Copy + Told>(
+pub(super) fn trial<
+    S: BlockStore + Drop,
+    Q: Summary<Reading = S::Reading> + Copy + PartialEq + Debug,
+>(
     rt: &impl Abort,
     heap: Global,
     mut one: S,
     mut two: S,
     size: Size,
     readings: &[S::Reading],
-    calls: &[(Call, [u32; 3])],
-) -> Result<[u32; 3], Fail> {
-    let Some(mark) = readings.first() else {
-        return Err(Fail::new("no readings"));
-    };
-    let mut nodes = filled(heap, free_node::<Q>(), size.nodes)?;
-    let mut others = filled(heap, free_node::<Q>(), size.nodes)?;
-    let mut versions = filled(heap, free_record(), size.versions)?;
-    let mut records = filled(heap, free_record(), size.versions)?;
-    let ends = play(
-        rt,
+    calls: &[(Call, Outcome)],
+) -> Result<Ends, Fail> {
+    let accepted: Vec<(Call, Outcome)> = calls
+        .iter()
+        .copied()
+        .filter(|(_, wanted)| !matches!(wanted, Outcome::Refused(_, _)))
+        .collect(heap)?;
+    let mut tables = Tables::<Q>::free(heap, size)?;
+    let mut others = Tables::<Q>::free(heap, size)?;
+    let ends = Rig::begin(
         heap,
-        &mut nodes,
-        &mut versions,
+        &mut tables.nodes,
+        &mut tables.versions,
         &mut one,
         readings,
-        *mark,
-        calls,
-        true,
-    )?;
-    let second = play(
-        rt,
+    )?
+    .play(rt, calls)?;
+    let second = Rig::begin(
         heap,
-        &mut others,
-        &mut records,
+        &mut others.nodes,
+        &mut others.versions,
         &mut two,
         readings,
-        *mark,
-        calls,
-        false,
-    )?;
+    )?
+    .play(rt, &accepted)?;
     assert_eq!(rt; ends, second);
-    same_nodes(rt, &nodes, &others, ends[0]);
-    same_records(rt, &versions, &records, ends[1]);
+    same(rt, &tables.nodes, &others.nodes, ends.nodes, free_node());
+    same(
+        rt,
+        &tables.versions,
+        &others.versions,
+        ends.versions,
+        free_record(),
+    );
     Ok(ends)
 }

@@ -1,6 +1,7 @@
 // Loading into an archive that begins.
 ghost use Rattle.std.specs.Prelude.{◌≡◌};
 ghost use Rattle.archive.specs.Calling.{archive_of};
+ghost use Rattle.journal.specs.Format.{coding};
 ghost use Rattle.journal.specs.Loading.{LoadedFrom};
 
 use super::loaded::Loaded;
@@ -17,7 +18,7 @@ pub(crate) fn begin_and_take_in<'a, S: BlockStore, Q: Summary<Reading = S::Readi
     store: &mut S,
     area: &mut [S::Reading],
 ) -> Loaded<'a, Q>
-    ensures loaded { LoadedFrom Q.Summary.means S.BlockStore.rows S.BlockStore.refuses (record { code = S.Reading.Reading.coded; wide = S.Reading.Reading.wide; bytes = S.Reading.Reading.bytes }) nodes.old versions.old store.old area.old bytes.now result.answer (archive_of result.table versions.new store.new) area.new }
+    ensures loaded { LoadedFrom Q.Summary.means S.BlockStore (coding S.Reading.Reading.own) nodes.old versions.old store.old area.old bytes.now result.answer (archive_of result.table versions.new store.new) area.new }
     ensures lender { result.table.nodes.ghost_name ≡ nodes.entry.ghost_name }
 {
     let mut table = NodeTable::begin(nodes, versions);

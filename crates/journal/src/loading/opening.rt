@@ -1,7 +1,7 @@
 // What the record of an edit says.
 
 // An edit without its row.
-#[derive(Clone, Copy)]
+#[derive(Clone, Copy, PartialEq, Eq, Debug)]
 pub(crate) enum Step {
     Insert { base: u32, place: u32, level: u8 },
     Change { base: u32, place: u32 },
@@ -9,7 +9,7 @@ pub(crate) enum Step {
 }
 
 // The edit, how many readings its row has, and where they begin.
-#[derive(Clone, Copy)]
+#[derive(Clone, Copy, PartialEq, Eq, Debug)]
 pub(crate) struct Opening {
     pub step: Step,
     pub count: usize,

@@ -1,12 +1,12 @@
 // Single floats as a kind of reading: code 2, four bytes. Not-a-number is missing and ranks 0; an infinity is present.
-ghost use Rattle.std.specs.Prelude.{◌≡◌, Decides};
+ghost use Rattle.std.specs.Prelude.{◌≡◌};
 ghost use Rattle.std.proofs.Common.{refl, sym, ap, ◌∙◌};
 ghost use Rattle.reading.specs.Kinds.{single_rank};
 ghost use Rattle.reading.specs.Bytes.{four_bytes};
 ghost use Rattle.reading.specs.Patterns.{not_a_number};
 ghost use Rattle.reading.specs.Restoring.{restored_single};
 ghost use Rattle.reading.specs.Digits.{four_back, of_four};
-ghost use Rattle.reading.specs.Equal.{single_equal};
+ghost use Rattle.reading.specs.Equal.{single_equal, single_same};
 ghost use Rattle.reading.specs.Restored.{single_back};
 
 use super::Single;
@@ -14,29 +14,14 @@ use super::bits::{QUIET, SIGN, is_nan};
 use crate::Reading;
 use crate::bytes::place;
 
-fn same_bits(a: &Single, b: &Single) -> bool
-    ensures { Decides result (a.now ≡ b.now) }
-{
-    a.bits == b.bits
-}
-
-fn recall(from: &[u8]) -> Single
-    ensures { result ≡ restored_single from.now }
-{
-    let [a, b, c, d] = from else {
-        return Single::from_bits(0);
-    };
-    Single::from_bits(u32::from_be_bytes([*a, *b, *c, *d]))
-}
-
 impl Reading for Single {
     const CODE: u8 = 2;
 
     const WIDTH: usize = 4;
 
-    ghost coded = { 2 };
+    ghost CODE = { 2 };
 
-    ghost wide = { 4 };
+    ghost WIDTH = { 4 };
 
     ghost missing = { λ x. not_a_number x.bits };
 
@@ -48,17 +33,11 @@ impl Reading for Single {
 
     ghost measured = { λ x. refl };
 
+    ghost same = { single_same };
+
     ghost told = { λ x y e. single_equal x y (sym (four_back _ x.fits) ∙ ap of_four e ∙ four_back _ y.fits) };
 
     ghost back = { λ x. single_back x };
-
-    fn kind_code() -> u8 {
-        Self::CODE
-    }
-
-    fn byte_width() -> usize {
-        Self::WIDTH
-    }
 
     fn is_missing(&self) -> bool {
         is_nan(self.bits)
@@ -72,10 +51,6 @@ impl Reading for Single {
         } else {
             i64::from(SIGN) - i64::from(self.bits)
         }
-    }
-
-    fn same(&self, other: &Single) -> bool {
-        same_bits(self, other)
     }
 
     fn encode(&self, out: &mut [u8], at: usize) -> bool {
@@ -94,6 +69,9 @@ impl Reading for Single {
     }
 
     fn restore(from: &[u8]) -> Single {
-        recall(from)
+        match from {
+            [a, b, c, d] => Single::from_bits(u32::from_be_bytes([*a, *b, *c, *d])),
+            _ => Single::from_bits(0),
+        }
     }
 }

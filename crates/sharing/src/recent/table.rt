@@ -16,7 +16,9 @@ impl Recent {
         }
     }
 
-    fn aged(&self, age: usize) -> Option<u32>
+    // The number that was remembered `age` rows before the newest.
+    #[tactic(auto, using(crate::proofs::Turning::number_aged))]
+    pub fn newest(&self, age: usize) -> Option<u32>
         ensures { result ≡ slice_get (remembered self.now) age }
     {
         if self.held <= age {
@@ -24,13 +26,6 @@ impl Recent {
         }
         let slot = (self.next + 31 - age) % 32;
         Some(self.entries[slot].block)
-    }
-
-    // The number that was remembered `age` rows before the newest.
-    pub fn newest(&self, age: usize) -> Option<u32>
-        ensures { result ≡ slice_get (remembered self.now) age }
-    {
-        self.aged(age)
     }
 
     // Writes one entry, and keeps the newest `most`.

@@ -16,9 +16,7 @@ fn find<S: BlockStore>(store: &S, recent: &Recent, row: &[S::Reading]) -> Option
     ensures sized { FoundSized row.now result }
 {
     for age in 0..32 {
-        let Some(block) = recent.newest(age) else {
-            return None;
-        };
+        let block = recent.newest(age)?;
         if same_row(store, block, row) {
             return Some(block);
         }
@@ -46,19 +44,9 @@ impl<S: BlockStore> Sharing<S> {
         self.recent.note(number);
         Ok(number)
     }
-
-    // Answers a remembered block that is the row, and passes any other row down.
-    fn share(&mut self, row: &[S::Reading]) -> Result<u32, Cause>
-        ensures store { Put (shared_rows S.BlockStore.rows) (shared_refuses S.BlockStore.rows S.BlockStore.refuses) self.old row.now result self.new }
-        ensures exact { Layered S.BlockStore.rows S.BlockStore.refuses self.old row.now result self.new }
-    {
-        match find(&self.below, &self.recent, row) {
-            Some(block) => Ok(block),
-            None => self.pass(row),
-        }
-    }
 }
 
+// The layer's list and its refusals are made of the store's list and refusals one by one, so these two stand apart here.
 impl<S: BlockStore> BlockStore for Sharing<S> {
     type Reading = S::Reading;
 
@@ -66,11 +54,16 @@ impl<S: BlockStore> BlockStore for Sharing<S> {
 
     ghost refuses = { shared_refuses S.BlockStore.rows S.BlockStore.refuses };
 
+    // Answers a remembered block that is the row, and passes any other row down: a match, since that way goes on with the layer itself.
+    #[tactic(auto, using(crate::proofs::Finding::looked))]
     fn put(&mut self, row: &[S::Reading]) -> Result<u32, Cause>
         ensures store { Put (shared_rows S.BlockStore.rows) (shared_refuses S.BlockStore.rows S.BlockStore.refuses) self.old row.now result self.new }
         ensures exact { Layered S.BlockStore.rows S.BlockStore.refuses self.old row.now result self.new }
     {
-        self.share(row)
+        match find(&self.below, &self.recent, row) {
+            Some(block) => Ok(block),
+            None => self.pass(row),
+        }
     }
 
     fn count(&self) -> u32 {

@@ -1,36 +1,10 @@
-use Rattle.std.proofs.Common.{set, refl, ap, ◌∙◌}
-use Rattle.std.proofs.lemmas.Result.{err_from_is_err_and}
+use Rattle.std.proofs.Common.{set, ap, ◌∙◌}
 use Rattle.archive.proofs.Changes.{answered}
-use Rattle.archive.proofs.Inserts.{looked_err, looked_refused}
 use Rattle.archive.proofs.change.change_in.Goals as goal
 
-pub returns-in_err-from : goal.returns-in_err-from
-returns-in_err-from g c =
-    let p = err_from_is_err_and c.from_residual.result c.from_residual.ensures.1 in
-    rw (p.1, p.2) (record { left = (refl, refl, refl); law = λ es st. looked_err _ _ _ _ _ (c.in_err-from.ensures.looked es st.tables); room = tt })
-
-pub returns-in_err-block : goal.returns-in_err-block
-returns-in_err-block g c =
-    let p = err_from_is_err_and c.from_residual-in_err-block.result c.from_residual-in_err-block.ensures.1 in
-    rw (p.1, p.2) (record {
-      left = (refl, refl, c.in_err-block.ensures.kept);
-      law = λ es st. looked_refused _ _ c.in_ok-from.from _ _ _ (c.in_ok-from.ensures.looked es st.tables) c.in_err-block.ensures.cause;
-      room = tt;
-    })
-
-pub returns : goal.returns
-returns g c = record {
-  left = record {
-    grown = c.write_change-built.ensures.grown;
-    version = _;
-    recorded = c.note.ensures;
-    number = c.in_ok-block.block;
-    put = c.in_ok-block.ensures;
-  };
-  law = λ es st.
-      answered g.Q.Summary.means g.S.BlockStore.rows g.S.BlockStore.refuses _ _ _ c.args.base c.args.place c.args.row.now c.in_ok-from.from
-      c.in_ok-block.block c.write_change-built.new.nodes c.write_change-built.result.root c.write_change-built.result.used c.blocks_in-blocks.result c.readings_at-readings.result
-      es st (c.in_ok-from.ensures.looked es st.tables) c.in_ok-block.ensures c.write_change-built.ensures.grown c.write_change-built.ensures.changed c.write_change-built.auto.nodes
-      c.blocks_in-blocks.ensures c.readings_at-readings.ensures c.note.new.versions (c.note.ensures ∙ ap (set c.args.versions.now c.args.count) c.edited-version.ensures);
-  room = c.in_ok-from.ensures.room.1;
-}
+pub returns-clause-law : goal.returns-clause-law
+returns-clause-law g c = λ es st.
+    answered g.Q.Summary.means g.S.BlockStore _ _ _ c.args.base c.args.place c.args.row.now c.in_ok-from.from
+    c.in_ok-block.block c.write_change-built.new.nodes c.write_change-built.result.root c.write_change-built.result.used c.blocks_in-blocks.result c.readings_in-readings.result
+    es st (c.in_ok-from.ensures.looked es st.tables) c.in_ok-block.ensures c.write_change-built.ensures.grown c.write_change-built.ensures.changed c.write_change-built.auto.nodes
+    c.blocks_in-blocks.ensures c.readings_in-readings.ensures c.put-2.new.entries (rw c.default.ensures.1.1.1.0 at (c.put-2.ensures ∙ ap (set c.args.versions.now c.args.count) c.walked.ensures))

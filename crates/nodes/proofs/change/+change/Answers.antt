@@ -1,40 +1,21 @@
 use Rattle.std.proofs.Common.{arith}
-use Rattle.nodes.proofs.Tables.{grown_none, grown_then}
 use Rattle.nodes.proofs.Changes.{change_nothing, change_last, change_stop, change_on, change_below, change_after}
 use Rattle.nodes.proofs.change.+change.Goals as goal
 
-pub returns-then-upto-own : goal.returns-then-upto-own
-returns-then-upto-own g t c = record {
-  grown = c.write_leaf-next.ensures.grown;
-  changed = change_stop g.Q.Summary.means _ _ c.in-Followed.ensures c.min-own.ensures c.if-upto-own.true c.write_leaf-next.ensures;
-}
+pub returns-then-upto-own-clause-changed : goal.returns-then-upto-own-clause-changed
+returns-then-upto-own-clause-changed g t c = rw c.write_leaf-then-upto-own.ensures.root (change_stop g.Q.Summary.means _ _ (rw (c.in-Leaf-default-default-Some.is, rw c.in-Leaf-default-default-Some.is at c.in-Leaf-default-default-Some.after-is) at c.in-Some.ensures) c.min-own.ensures c.if-upto-own.true c.write_leaf-then-upto-own.ensures.made)
 
-pub returns-then-upto-left : goal.returns-then-upto-left
-returns-then-upto-left g t c = record {
-  grown = grown_then c.change-part.ensures.grown c.write_fork-next.ensures.grown;
-  changed = change_below g.Q.Summary.means _ _ c.in-Forked.ensures c.blocks_in-left.ensures c.if-upto-left.true c.change-part.ensures.grown c.change-part.ensures.changed c.change-part.auto.nodes c.write_fork-next.ensures;
-}
+pub returns-then-upto-left-clause-changed : goal.returns-then-upto-left-clause-changed
+returns-then-upto-left-clause-changed g t c = rw c.write_fork.ensures.root (change_below g.Q.Summary.means _ _ (rw c.in-Fork.is at c.in-Some.ensures) c.blocks_in-left.ensures c.if-upto-left.true c.change-part.ensures.grown c.change-part.ensures.changed c.change-part.auto.nodes c.write_fork.ensures.made)
 
-pub returns-in-Nothing : goal.returns-in-Nothing
-returns-in-Nothing g t c = record {
-  grown = grown_none _ _;
-  changed = change_nothing g.Q.Summary.means _ _ c.in-Nothing.ensures;
-}
+pub returns-in_default-clause-changed : goal.returns-in_default-clause-changed
+returns-in_default-clause-changed g t c = change_nothing g.Q.Summary.means _ _ c.in_default.ensures
 
-pub returns-in-Last : goal.returns-in-Last
-returns-in-Last g t c = record {
-  grown = c.write_leaf.ensures.grown;
-  changed = change_last g.Q.Summary.means _ _ c.in-Last.ensures c.write_leaf.ensures;
-}
+pub returns-in-Leaf-default-default-None-clause-changed : goal.returns-in-Leaf-default-default-None-clause-changed
+returns-in-Leaf-default-default-None-clause-changed g t c = rw c.write_leaf.ensures.root (change_last g.Q.Summary.means _ _ (rw (c.in-Leaf-default-default-None.is, rw c.in-Leaf-default-default-None.is at c.in-Leaf-default-default-None.after-is) at c.in-Some.ensures) c.write_leaf.ensures.made)
 
-pub returns-else-upto-own : goal.returns-else-upto-own
-returns-else-upto-own g t c = record {
-  grown = grown_then c.change-rest.ensures.grown c.write_leaf-next-in-Followed.ensures.grown;
-  changed = change_on g.Q.Summary.means _ _ c.in-Followed.ensures c.min-own.ensures (omega arith) c.change-rest.ensures.changed c.change-rest.auto.nodes c.write_leaf-next-in-Followed.ensures;
-}
+pub returns-else-upto-own-clause-changed : goal.returns-else-upto-own-clause-changed
+returns-else-upto-own-clause-changed g t c = rw c.write_leaf-in-Leaf-default-default-Some.ensures.root (change_on g.Q.Summary.means _ _ (rw (c.in-Leaf-default-default-Some.is, rw c.in-Leaf-default-default-Some.is at c.in-Leaf-default-default-Some.after-is) at c.in-Some.ensures) c.min-own.ensures (omega arith) c.change-rest.ensures.changed c.change-rest.auto.nodes c.write_leaf-in-Leaf-default-default-Some.ensures.made)
 
-pub returns-else-upto-left : goal.returns-else-upto-left
-returns-else-upto-left g t c = record {
-  grown = grown_then c.change-part-in-Forked.ensures.grown c.write_fork-next-in-Forked.ensures.grown;
-  changed = change_after g.Q.Summary.means _ _ c.in-Forked.ensures c.blocks_in-left.ensures (omega arith) c.change-part-in-Forked.ensures.grown c.change-part-in-Forked.ensures.changed c.change-part-in-Forked.auto.nodes c.write_fork-next-in-Forked.ensures;
-}
+pub returns-else-upto-left-clause-changed : goal.returns-else-upto-left-clause-changed
+returns-else-upto-left-clause-changed g t c = rw c.write_fork-in-Fork.ensures.root (change_after g.Q.Summary.means _ _ (rw c.in-Fork.is at c.in-Some.ensures) c.blocks_in-left.ensures (omega arith) c.change-part-in-Fork.ensures.grown c.change-part-in-Fork.ensures.changed c.change-part-in-Fork.auto.nodes c.write_fork-in-Fork.ensures.made)

@@ -1,47 +1,25 @@
 use Rattle.std.proofs.Common.{sym, arith}
 use Rattle.std.proofs.lemmas.Bool.{eqb-true, eqb-false}
-use Rattle.nodes.proofs.Tables.{grown_none, grown_then}
 use Rattle.nodes.proofs.Cuts.{left_end, left_nothing, left_last, left_stop, left_on, left_below, left_after}
 use Rattle.nodes.proofs.pieces.+left.Goals as goal
 
-pub returns-then-ends_at_cut : goal.returns-then-ends_at_cut
-returns-then-ends_at_cut g t c = record {
-  grown = grown_none _ _;
-  made = left_end g.Q.Summary.means _ _ c.blocks_in.ensures (eqb-true _ _ (sym c.if-ends_at_cut.ensures));
-}
+pub returns-then-ends_at_cut-clause-made : goal.returns-then-ends_at_cut-clause-made
+returns-then-ends_at_cut-clause-made g t c = left_end g.Q.Summary.means _ _ c.blocks_in.ensures (eqb-true _ _ (sym c.if-ends_at_cut.ensures))
 
-pub returns-then-upto-own : goal.returns-then-upto-own
-returns-then-upto-own g t c = record {
-  grown = c.write_leaf-next.ensures.grown;
-  made = left_stop g.Q.Summary.means _ _ c.in-Followed.ensures c.min-own.ensures c.if-upto-own.true c.write_leaf-next.ensures;
-}
+pub returns-then-upto-own-clause-made : goal.returns-then-upto-own-clause-made
+returns-then-upto-own-clause-made g t c = rw c.write_leaf.ensures.root (left_stop g.Q.Summary.means _ _ (rw (c.in-Leaf-default-default-Some.is, rw c.in-Leaf-default-default-Some.is at c.in-Leaf-default-default-Some.after-is) at c.in-Some.ensures) c.min-own.ensures c.if-upto-own.true c.write_leaf.ensures.made)
 
-pub returns-then-upto-count : goal.returns-then-upto-count
-returns-then-upto-count g t c = record {
-  grown = c.left.ensures.grown;
-  made = left_below g.Q.Summary.means _ _ c.in-Forked.ensures c.blocks_in-count.ensures c.if-upto-count.true c.left.ensures.made;
-}
+pub returns-then-upto-count-clause-made : goal.returns-then-upto-count-clause-made
+returns-then-upto-count-clause-made g t c = left_below g.Q.Summary.means _ _ (rw c.in-Fork.is at c.in-Some.ensures) c.blocks_in-count.ensures c.if-upto-count.true c.left.ensures.made
 
-pub returns-in-Nothing : goal.returns-in-Nothing
-returns-in-Nothing g t c = record {
-  grown = grown_none _ _;
-  made = left_nothing g.Q.Summary.means _ _ c.in-Nothing.ensures;
-}
+pub returns-in_default-clause-made : goal.returns-in_default-clause-made
+returns-in_default-clause-made g t c = left_nothing g.Q.Summary.means _ _ c.in_default.ensures
 
-pub returns-in-Last : goal.returns-in-Last
-returns-in-Last g t c = record {
-  grown = grown_none _ _;
-  made = left_last g.Q.Summary.means _ _ c.in-Last.ensures;
-}
+pub returns-in-Leaf-default-default-None-clause-made : goal.returns-in-Leaf-default-default-None-clause-made
+returns-in-Leaf-default-default-None-clause-made g t c = left_last g.Q.Summary.means _ _ (rw (c.in-Leaf-default-default-None.is, rw c.in-Leaf-default-default-None.is at c.in-Leaf-default-default-None.after-is) at c.in-Some.ensures)
 
-pub returns-else-upto-own : goal.returns-else-upto-own
-returns-else-upto-own g t c = record {
-  grown = grown_then c.left-rest.ensures.grown c.write_leaf-next-in-Followed.ensures.grown;
-  made = left_on g.Q.Summary.means _ _ c.blocks_in.ensures (eqb-false _ _ (sym c.if-ends_at_cut.ensures)) c.in-Followed.ensures c.min-own.ensures (omega arith) c.left-rest.ensures.made c.left-rest.auto.nodes c.write_leaf-next-in-Followed.ensures;
-}
+pub returns-else-upto-own-clause-made : goal.returns-else-upto-own-clause-made
+returns-else-upto-own-clause-made g t c = rw c.write_leaf-in-Leaf-default-default-Some.ensures.root (left_on g.Q.Summary.means _ _ c.blocks_in.ensures (eqb-false _ _ (sym c.if-ends_at_cut.ensures)) (rw (c.in-Leaf-default-default-Some.is, rw c.in-Leaf-default-default-Some.is at c.in-Leaf-default-default-Some.after-is) at c.in-Some.ensures) c.min-own.ensures (omega arith) c.left-rest.ensures.made c.left-rest.auto.nodes c.write_leaf-in-Leaf-default-default-Some.ensures.made)
 
-pub returns-else-upto-count : goal.returns-else-upto-count
-returns-else-upto-count g t c = record {
-  grown = grown_then c.left-part.ensures.grown c.write_fork-next.ensures.grown;
-  made = left_after g.Q.Summary.means _ _ c.blocks_in.ensures (eqb-false _ _ (sym c.if-ends_at_cut.ensures)) c.in-Forked.ensures c.blocks_in-count.ensures (omega arith) c.left-part.ensures.grown c.left-part.ensures.made c.left-part.auto.nodes c.write_fork-next.ensures;
-}
+pub returns-else-upto-count-clause-made : goal.returns-else-upto-count-clause-made
+returns-else-upto-count-clause-made g t c = rw c.write_fork.ensures.root (left_after g.Q.Summary.means _ _ c.blocks_in.ensures (eqb-false _ _ (sym c.if-ends_at_cut.ensures)) (rw c.in-Fork.is at c.in-Some.ensures) c.blocks_in-count.ensures (omega arith) c.left-part.ensures.grown c.left-part.ensures.made c.left-part.auto.nodes c.write_fork.ensures.made)

@@ -1,50 +1,31 @@
-use Rattle.std.proofs.Common.{sym, ◌∙◌}
+use Rattle.std.proofs.Common.{sym}
 use Rattle.std.proofs.lemmas.Bool.{ltb-true, ltb-false}
-use Rattle.nodes.proofs.Tables.{grown_none, grown_then}
-use Rattle.nodes.proofs.Joins.{merge_nothing, merge_none, merge_kept, merge_last, merge_leaf, merge_fork, merge_past, merge_under, level_below}
+use Rattle.nodes.proofs.Joins.{merge_nothing, merge_none, merge_kept, merge_last, merge_leaf, merge_fork, merge_past, merge_under, no_level, level_below}
 use Rattle.nodes.proofs.remove.+merge.Goals as goal
 
-pub returns-in-Nothing : goal.returns-in-Nothing
-returns-in-Nothing g t c = record { grown = grown_none _ _; merged = merge_nothing g.Q.Summary.means _ _ c.in-Nothing.ensures }
+pub returns-in_default-clause-merged : goal.returns-in_default-clause-merged
+returns-in_default-clause-merged g t c = merge_none g.Q.Summary.means _ _ c.in_default.ensures
 
-pub returns-in-Last : goal.returns-in-Last
-returns-in-Last g t c = record { grown = grown_none _ _; merged = merge_kept g.Q.Summary.means _ _ c.in-Last.ensures }
+pub returns-in_default-view-clause-merged : goal.returns-in_default-view-clause-merged
+returns-in_default-view-clause-merged g t c = merge_nothing g.Q.Summary.means _ _ c.in_default-view.ensures
 
-pub returns-in-Nothing-one : goal.returns-in-Nothing-one
-returns-in-Nothing-one g t c = record { grown = grown_none _ _; merged = merge_none g.Q.Summary.means _ _ c.in-Nothing-one.ensures }
+pub returns-in-Leaf-default-default-None-clause-merged : goal.returns-in-Leaf-default-default-None-clause-merged
+returns-in-Leaf-default-default-None-clause-merged g t c = merge_kept g.Q.Summary.means _ _ (rw (c.in-Leaf-default-default-None.is, rw c.in-Leaf-default-default-None.is at c.in-Leaf-default-default-None.after-is) at c.in-Some-view.ensures)
 
-pub returns-in-Last-one : goal.returns-in-Last-one
-returns-in-Last-one g t c = record {
-  grown = c.write_leaf.ensures.grown;
-  merged = merge_last g.Q.Summary.means _ _ c.in-Followed.ensures c.in-Last-one.ensures c.write_leaf.ensures;
-}
+pub returns-in-Leaf-default-default-None-one-clause-merged : goal.returns-in-Leaf-default-default-None-one-clause-merged
+returns-in-Leaf-default-default-None-one-clause-merged g t c = rw c.write_leaf.ensures.root (merge_last g.Q.Summary.means _ _ (rw (c.in-Leaf-default-default-Some.is, rw c.in-Leaf-default-default-Some.is at c.in-Leaf-default-default-Some.after-is) at c.in-Some-view.ensures) (rw (c.in-Leaf-default-default-None-one.is, rw c.in-Leaf-default-default-None-one.is at c.in-Leaf-default-default-None-one.after-is) at c.in-Some.ensures) c.write_leaf.ensures.made)
 
-pub returns-in-Followed-one : goal.returns-in-Followed-one
-returns-in-Followed-one g t c = record {
-  grown = grown_then c.merge-part.ensures.grown c.write_leaf-next.ensures.grown;
-  merged = merge_leaf g.Q.Summary.means _ _ c.in-Followed.ensures c.in-Followed-one.ensures c.merge-part.ensures.merged c.merge-part.auto.nodes c.write_leaf-next.ensures;
-}
+pub returns-in-Leaf-default-default-Some-one-clause-merged : goal.returns-in-Leaf-default-default-Some-one-clause-merged
+returns-in-Leaf-default-default-Some-one-clause-merged g t c = rw c.write_leaf-in-Leaf-default-default-Some-one.ensures.root (merge_leaf g.Q.Summary.means _ _ (rw (c.in-Leaf-default-default-Some.is, rw c.in-Leaf-default-default-Some.is at c.in-Leaf-default-default-Some.after-is) at c.in-Some-view.ensures) (rw (c.in-Leaf-default-default-Some-one.is, rw c.in-Leaf-default-default-Some-one.is at c.in-Leaf-default-default-Some-one.after-is) at c.in-Some.ensures) c.merge-part.ensures.merged c.merge-part.auto.nodes c.write_leaf-in-Leaf-default-default-Some-one.ensures.made)
 
-pub returns-in-Forked-one : goal.returns-in-Forked-one
-returns-in-Forked-one g t c = record {
-  grown = grown_then c.merge-part-in-Forked-one.ensures.grown c.write_fork-next.ensures.grown;
-  merged = merge_fork g.Q.Summary.means _ _ c.in-Followed.ensures c.in-Forked-one.ensures c.merge-part-in-Forked-one.ensures.grown c.merge-part-in-Forked-one.ensures.merged c.merge-part-in-Forked-one.auto.nodes c.write_fork-next.ensures;
-}
+pub returns-in-Fork-one-clause-merged : goal.returns-in-Fork-one-clause-merged
+returns-in-Fork-one-clause-merged g t c = rw c.write_fork.ensures.root (merge_fork g.Q.Summary.means _ _ (rw (c.in-Leaf-default-default-Some.is, rw c.in-Leaf-default-default-Some.is at c.in-Leaf-default-default-Some.after-is) at c.in-Some-view.ensures) (rw c.in-Fork-one.is at c.in-Some.ensures) c.merge-part-in-Fork-one.ensures.grown c.merge-part-in-Fork-one.ensures.merged c.merge-part-in-Fork-one.auto.nodes c.write_fork.ensures.made)
 
-pub returns-then-second_over : goal.returns-then-second_over
-returns-then-second_over g t c = record {
-  grown = grown_then c.merge-part-then-second_over.ensures.grown c.write_fork-next-then-second_over.ensures.grown;
-  merged = merge_under g.Q.Summary.means _ _ c.in-Forked.ensures (λ m i o see. level_below c.in-Forked-one-2.ensures (ltb-true _ _ (sym c.if-second_over.ensures)) see) c.merge-part-then-second_over.ensures.grown c.merge-part-then-second_over.ensures.merged c.merge-part-then-second_over.auto.nodes c.write_fork-next-then-second_over.ensures;
-}
+pub returns-in-Leaf-clause-merged : goal.returns-in-Leaf-clause-merged
+returns-in-Leaf-clause-merged g t c = rw c.write_fork-in-Leaf.ensures.root (merge_under g.Q.Summary.means _ _ (rw c.in-Fork.is at c.in-Some-view.ensures) (λ m i o see. no_level (rw c.in-Leaf.is at c.in-Some.ensures) see) c.merge-part-in-Leaf.ensures.grown c.merge-part-in-Leaf.ensures.merged c.merge-part-in-Leaf.auto.nodes c.write_fork-in-Leaf.ensures.made)
 
-pub returns-else-second_over : goal.returns-else-second_over
-returns-else-second_over g t c = record {
-  grown = grown_then c.merge-part-in-Forked-one-2.ensures.grown c.write_fork-next-in-Forked-one-2.ensures.grown;
-  merged = merge_past g.Q.Summary.means _ _ c.in-Forked.ensures c.in-Forked-one-2.ensures (ltb-false _ _ (sym c.if-second_over.ensures)) c.merge-part-in-Forked-one-2.ensures.grown c.merge-part-in-Forked-one-2.ensures.merged c.merge-part-in-Forked-one-2.auto.nodes c.write_fork-next-in-Forked-one-2.ensures;
-}
+pub returns-then-second_over-clause-merged : goal.returns-then-second_over-clause-merged
+returns-then-second_over-clause-merged g t c = rw c.write_fork-then-second_over.ensures.root (merge_under g.Q.Summary.means _ _ (rw c.in-Fork.is at c.in-Some-view.ensures) (λ m i o see. level_below (rw c.in-Fork-one-2.is at c.in-Some.ensures) (ltb-true _ _ (sym c.if-second_over.ensures)) see) c.merge-part-then-second_over.ensures.grown c.merge-part-then-second_over.ensures.merged c.merge-part-then-second_over.auto.nodes c.write_fork-then-second_over.ensures.made)
 
-pub returns-in_default : goal.returns-in_default
-returns-in_default g t c = record {
-  grown = grown_then c.merge-part-in_default.ensures.grown c.write_fork-next-in_default.ensures.grown;
-  merged = merge_under g.Q.Summary.means _ _ c.in-Forked.ensures (λ m i o see. absurd (c.in_default.not-Forked m i o (c.view-one.ensures ∙ sym see))) c.merge-part-in_default.ensures.grown c.merge-part-in_default.ensures.merged c.merge-part-in_default.auto.nodes c.write_fork-next-in_default.ensures;
-}
+pub returns-else-second_over-clause-merged : goal.returns-else-second_over-clause-merged
+returns-else-second_over-clause-merged g t c = rw c.write_fork-in-Fork-one-2.ensures.root (merge_past g.Q.Summary.means _ _ (rw c.in-Fork.is at c.in-Some-view.ensures) (rw c.in-Fork-one-2.is at c.in-Some.ensures) (ltb-false _ _ (sym c.if-second_over.ensures)) c.merge-part-in-Fork-one-2.ensures.grown c.merge-part-in-Fork-one-2.ensures.merged c.merge-part-in-Fork-one-2.auto.nodes c.write_fork-in-Fork-one-2.ensures.made)

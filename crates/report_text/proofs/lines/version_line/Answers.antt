@@ -1,20 +1,14 @@
-use Rattle.std.proofs.Common.{string_bytes, sym, ◌∙◌}
-use Rattle.std.proofs.lemmas.Result.{IfOk-weaker}
+use Rattle.std.proofs.Common.{Some, string_bytes, sym, refl}
 use Rattle.archive.specs.Calling.{archive_of}
-use Rattle.report_text.specs.Report.{LineTold}
-use Rattle.report_text.proofs.Told.{line_there, line_missing}
+use Rattle.std.proofs.lemmas.Result.{on_ok_weaker}
+use Rattle.store.proofs.Cutting.{item_nth}
+use Rattle.report_text.proofs.Told.{line_there}
 use Rattle.report_text.proofs.lines.version_line.Goals as goal
-
-pub returns-in_default : goal.returns-in_default
-returns-in_default g c =
-    let s = archive_of c.args.table.now c.args.versions.now c.args.store.now in
-    IfOk-weaker c.from_str.result _ (λ t. LineTold g.S.BlockStore.rows g.S.BlockStore.refuses s c.args.v (string_bytes t))
-    (λ t e. line_missing g.S.BlockStore.rows g.S.BlockStore.refuses s c.args.v (string_bytes t) (sym c.record_at.ensures ∙ c.in_default.is))
-    c.from_str.ensures.ok
 
 pub returns : goal.returns
 returns g c =
     let s = archive_of c.args.table.now c.args.versions.now c.args.store.now in
-    IfOk-weaker c.line.result _ (λ t. LineTold g.S.BlockStore.rows g.S.BlockStore.refuses s c.args.v (string_bytes t))
-    (λ t e. line_there g.S.BlockStore.rows g.S.BlockStore.refuses s c.args.v c.in-Some.noted c.top_of-top.result (string_bytes t) c.in-Some.ensures c.top_of-top.ensures e)
-    c.line.ensures
+    let record_there = c.in-Some.field-0.now in
+    on_ok_weaker c.write.result
+    (line_there g.S.BlockStore s c.args.v record_there c.peak_of.result.highest (string_bytes c.args.text.now) (string_bytes c.write.new.self)
+    (sym (item_nth c.args.versions.now c.args.v (Some c.in-Some.field-0) (Some record_there) c.in-Some.ensures.lookup refl)) c.peak_of.ensures) c.write.ensures.bytes

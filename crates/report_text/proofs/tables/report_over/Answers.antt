@@ -12,7 +12,6 @@ returns g c =
       area_after = c.load-table.new.area;
       loaded = c.load-table.ensures.loaded;
       shown =
-          all_shown g.S.BlockStore.rows g.S.BlockStore.refuses s (string_bytes c.in_ok-text.text) (string_bytes c.version_lines.new.text) c.as_str.result.now (string_bytes c.in_ok-fault.fault)
-          (string_bytes c.push_str.new.self) c.load-table.result.answer c.in_ok-text.ensures.ok c.in_ok-version_lines.ensures c.in_ok-fault.ensures c.as_str.ensures.value
-          c.in_ok-push_str.ensures.bytes;
+          all_shown g.S.BlockStore s (string_bytes c.in_ok-text.text) (string_bytes c.version_lines.new.text) (string_bytes c.fault_line.new.text)
+          c.load-table.result.answer c.in_ok-text.ensures.ok c.in_ok-version_lines.ensures c.in_ok-fault_line.ensures;
     }

@@ -2,4 +2,4 @@ use Rattle.archive.proofs.Calls.{summary_asked}
 use Rattle.archive.proofs.table.NodeTable.sum_span.Goals as goal
 
 pub returns : goal.returns
-returns g c = record { law = summary_asked g.Q.Summary.means g.S.BlockStore.rows g.S.BlockStore.refuses _ _ c.lent.ensures _ _ _ _ c.args.version c.args.a c.args.b _ c.summary_in.ensures.none c.summary_in.ensures.law }
+returns g c = record { law = summary_asked g.Q.Summary.means g.S.BlockStore _ _ c.lent.ensures _ _ _ _ c.args.version c.args.a c.args.b _ c.summary_in.ensures.none c.summary_in.ensures.law }

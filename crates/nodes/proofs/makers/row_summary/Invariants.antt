@@ -1,8 +1,0 @@
-use Rattle.std.proofs.Common.{◌≡◌, length, take}
-use Rattle.summary.specs.Summing.{summary_of}
-use Rattle.nodes.specs.Holding.{Content}
-use Rattle.nodes.specs.Making.{Stored}
-use Rattle.nodes.proofs.makers.row_summary.Given as goal
-
-abbrev pub invariant-loop-place : goal.invariant-loop-place
-invariant-loop-place g l = (c : Content g.row.S-Reading.Denot) → Stored (g.S.BlockStore.rows l.store) c → l.block ≡ c.number → l.length ≡ length c.row → l.sum ≡ summary_of g.Q.Summary.means (take l.place c.row)
