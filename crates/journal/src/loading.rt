@@ -1,4 +1,5 @@
 // Loading a journal. It takes as many steps as the journal has bytes, and the steps of the edits.
+// `lender`: that the table stays the caller's slice speaks of two values, so that no invariant of its type can say it.
 ghost use Rattle.std.specs.Prelude.{◌≡◌};
 ghost use Rattle.archive.specs.Calling.{archive_of};
 ghost use Rattle.journal.specs.Format.{coding};

@@ -1,6 +1,7 @@
 // The law over runs: what any calls on an archive answer and leave, one after another, and the call that carries out a list of them. Carrying out a
 // list takes the time of its calls. The two calls are thin over functions with the same promise: those have proofs written by hand, and a fault here
 // is then refused for the fact that fails.
+// `lender`: that the table stays the caller's slice speaks of two values, so that no invariant of its type can say it.
 #![tactic(auto)]
 
 ghost use Rattle.std.specs.Prelude.{◌≡◌, min, map, length, take, drop};

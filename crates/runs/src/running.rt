@@ -1,4 +1,5 @@
 // A list of calls, carried out one after another on an archive.
+// `lender`: that the table stays the caller's slice speaks of two values, so that no invariant of its type can say it.
 ghost use Rattle.std.specs.Prelude.{◌≡◌, min, map, length, take, drop};
 ghost use Rattle.archive.specs.Calling.{archive_of};
 ghost use Rattle.runs.specs.Calls.{wanted, Chain, bench_at};

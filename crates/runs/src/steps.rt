@@ -1,4 +1,5 @@
 // One call of a list, carried out on an archive.
+// `lender`: that the table stays the caller's slice speaks of two values, so that no invariant of its type can say it.
 ghost use Rattle.std.specs.Prelude.{◌≡◌};
 ghost use Rattle.archive.specs.Calling.{archive_of};
 ghost use Rattle.runs.specs.Calls.{row_named, wanted, SpanInto, Did, bench_at};

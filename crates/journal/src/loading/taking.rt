@@ -1,4 +1,5 @@
 // The edits of a journal, taken into an archive one after another.
+// `lender`: that the table stays the caller's slice speaks of two values, so that no invariant of its type can say it.
 ghost use Rattle.std.specs.Prelude.{◌≡◌, ◌<◌, length};
 ghost use Rattle.archive.specs.Calling.{archive_of};
 ghost use Rattle.journal.specs.Format.{coding};
