@@ -18,7 +18,7 @@ use Rattle.nodes.specs.Walking.{Ready, Room, LaidOut, CountedTo}
 use Rattle.nodes.proofs.Tables.{nth_set_same, nth_set_other}
 use Rattle.archive.specs.declared.version.Version.{Version}
 use Rattle.archive.specs.Records.{edit_record}
-use Rattle.archive.specs.Stands.{Tables, Fair, TablesStand, RowsStand, node_limit, version_limit, tables_of}
+use Rattle.archive.specs.Stands.{Tables, Fair, TablesStand, node_limit, version_limit, tables_of}
 use Rattle.archive.proofs.Moved.{holds_moved}
 use Rattle.archive.proofs.Next.{agree_later, stands_next}
 use Rattle.archive.proofs.Standing.{ready, lead_empty, leaves_are}
@@ -47,13 +47,13 @@ module _ {R Q : Type 0} (means : Summing R Q) (s : Tables Q) (es : List (Edit R)
   brought_is = cond-true (eqb (suc (length es)) (suc (length es))) _ _ (eq-eqb _ _ refl)
 
   -- what the walk asks of the base's tree, with the new block among the contents
-  pub base_ready : (rows : List (List R)) → RowsStand rows (list_of es (base_of e)) → Ready means rows (content_of (e ∷ es)) s.nodes s.used from.root b.tree
-  base_ready rows h =
+  pub base_ready : Ready means (content_of (e ∷ es)) s.nodes s.used from.root b.tree
+  base_ready =
       let w = b.stands in
       let t = b.tree in
       let moved = holds_moved means (content_of es) (content_of (e ∷ es)) s.nodes s.nodes t (agree_later means e es (base_of e) t w.shaped) (λ x k. refl) w.holds in
-      subst (λ r. Ready means rows (content_of (e ∷ es)) s.nodes s.used r t) (sym b.told_of.root_is)
-      (ready (e ∷ es) (list_of es (base_of e)) t w.shaped known w.fair w.few means rows s.nodes s.used moved w.under h)
+      subst (λ r. Ready means (content_of (e ∷ es)) s.nodes s.used r t) (sym b.told_of.root_is)
+      (ready (e ∷ es) (list_of es (base_of e)) t w.shaped known w.fair w.few means s.nodes s.used moved w.under)
 
   pub base_place : (place : ℕ) → place ≤ length (list_of es (base_of e)) → CountedTo (content_of (e ∷ es)) b.tree place place
   base_place place h =
@@ -62,19 +62,19 @@ module _ {R Q : Type 0} (means : Summing R Q) (s : Tables Q) (es : List (Edit R)
       let own = lead_empty (e ∷ es) (list_of es (base_of e)) b.tree w.shaped known w.fair w.few in
       (omega arith, omega arith)
 
-  module _ (plan : Plan Laid) (planned : PlanFor es e b.tree plan) (rows : List (List R)) where
+  module _ (plan : Plan Laid) (planned : PlanFor es e b.tree plan) where
     pub made_is : made plan ≡ written_by es e
     made_is = let w = b.stands in made_written es e b.tree plan s.used w.shaped w.own w.under planned
 
     -- there is room for what the edit may need
-    pub has_room : (need : ℕ) → written_by es e ≤ need → need ≤ node_limit s - s.used → Room means rows (content_of (e ∷ es)) s.nodes s.used plan
+    pub has_room : (need : ℕ) → written_by es e ≤ need → need ≤ node_limit s - s.used → Room means (content_of (e ∷ es)) s.nodes s.used plan
     has_room need h k =
         let m = made_is in
         let fit = st.nodes_fit in
         record { fits = omega arith; few = omega arith }
 
     -- the tables after the edit
-    pub edit_stands : (after : List (Node Q)) (at next : ℕ) (v : Version) → LaidOut means rows (content_of (e ∷ es)) s.used plan after at next
+    pub edit_stands : (after : List (Node Q)) (at next : ℕ) (v : Version) → LaidOut means (content_of (e ∷ es)) s.used plan after at next
         → Grown s.nodes s.used after next → length after ≡ length s.nodes → next ≤ node_limit s → s.count < version_limit s
         → v ≡ edit_record es e (next_list es e) at → AllByRecursion Fair (next_list es e) → length (next_list es e) ≤ 500
         → TablesStand means (e ∷ es) (tables_of after next (set s.versions s.count v) (s.count + 1))

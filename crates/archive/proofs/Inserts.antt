@@ -143,11 +143,11 @@ module _ {R Q S : Type 0} (means : Summing R Q) (keeps : Keeping S R) (s : Table
         let count_is = tb.counted in
         let used_is = tb.used_up in
         let enough : path xs place + 2 ≤ node_limit s - s.used = subst (λ u. path xs place + 2 ≤ node_limit s - u) (sym used_is) p.enough in
-        let room = has_room means s es tb e from b plan planned (keeps.rows after) (path xs place + 2) bound enough in
+        let room = has_room means s es tb e from b plan planned (path xs place + 2) bound enough in
         let block : BlockOf (keeps.rows after) (content_of (e ∷ es) (suc (length es))) n (length row) = subst (λ c. BlockOf (keeps.rows after) c n (length row)) (sym (brought_is means s es tb e from b))
         (record { stored = λ _. placed_new (keeps.rows store) (keeps.rows after) row n taken.placed; number = refl; size = refl }) in
-        let out : LaidOut means (keeps.rows after) (content_of (e ∷ es)) s.used plan nodes at next = walked (content_of (e ∷ es)) (suc (length es)) block b.tree place (base_ready means s es tb e from b (keeps.rows after) (rows_kept (keeps.rows store) (keeps.rows after) kept xs (st.stored base))) (base_place means s es tb e from b place in_place) room in
-        let mw : made plan ≡ written_by es e = made_is means s es tb e from b plan planned (keeps.rows after) in
+        let out : LaidOut means (content_of (e ∷ es)) s.used plan nodes at next = walked (content_of (e ∷ es)) (suc (length es)) block b.tree place (base_ready means s es tb e from b) (base_place means s es tb e from b place in_place) room in
+        let mw : made plan ≡ written_by es e = made_is means s es tb e from b plan planned in
         let up : next ≡ s.used + made plan = out.used_up in
         let fits = tb.nodes_fit in
         let item : Item R = record { identity = suc (length es); level = level; content = new } in
@@ -165,7 +165,7 @@ module _ {R Q S : Type 0} (means : Summing R Q) (keeps : Keeping S R) (s : Table
           put = taken.placed;
           written = grew;
           stands = record {
-            tables = edit_stands means s es tb e from b plan planned (keeps.rows after) nodes at next noted out grown size (omega arith) (omega arith) is fair few;
+            tables = edit_stands means s es tb e from b plan planned nodes at next noted out grown size (omega arith) (omega arith) is fair few;
             stored = rows_next (keeps.rows after) e es (λ v. rows_kept (keeps.rows store) (keeps.rows after) kept (list_of es v) (st.stored v))
                 (all_between (λ x. slice_get (keeps.rows after) x.content.number ≡ Some x.content.row) place xs item (rows_kept (keeps.rows store) (keeps.rows after) kept xs (st.stored base)) (placed_new (keeps.rows store) (keeps.rows after) row n taken.placed));
           };

@@ -38,7 +38,7 @@ module _ {R Q S : Type 0} (means : Summing R Q) (rows : S → List (List R)) (s 
   noted = record { parent = base; edit = Removal; place = place; level = 0; block = 0; root = at; blocks = some_blocks; readings = some_readings; written = next - s.used }
 
   module _ (es : List (Edit R)) (st : Stands means rows es s store) (looked : RefusedOr (removal_refusal s es base place) (slice_get s.versions base) (Ok from))
-      (grown : Grown s.nodes s.used nodes next) (walked : Removed means (rows store) s.nodes s.used from.root (place + 1) nodes at next) (size : length nodes ≡ length s.nodes)
+      (grown : Grown s.nodes s.used nodes next) (walked : Removed means s.nodes s.used from.root (place + 1) nodes at next) (size : length nodes ≡ length s.nodes)
       (blocks_read : some_blocks ≡ blocks_in (slice_get nodes at)) (readings_read : some_readings ≡ readings_at (slice_get nodes at)) where
     xs : List (Item R)
     xs = list_of es base
@@ -69,9 +69,9 @@ module _ {R Q S : Type 0} (means : Summing R Q) (rows : S → List (List R)) (s 
         let count_is = tb.counted in
         let used_is = tb.used_up in
         let enough : two_paths xs place - 1 ≤ node_limit s - s.used = subst (λ u. two_paths xs place - 1 ≤ node_limit s - u) (sym used_is) p.enough in
-        let room = has_room means s es tb e from b plan planned (rows store) (two_paths xs place - 1) bound enough in
-        let out : LaidOut means (rows store) (content_of (e ∷ es)) s.used plan nodes at next = walked (content_of (e ∷ es)) b.tree (suc place) (base_ready means s es tb e from b (rows store) (st.stored base)) (bp.0, omega arith) room in
-        let mw : made plan ≡ written_by es e = made_is means s es tb e from b plan planned (rows store) in
+        let room = has_room means s es tb e from b plan planned (two_paths xs place - 1) bound enough in
+        let out : LaidOut means (content_of (e ∷ es)) s.used plan nodes at next = walked (content_of (e ∷ es)) b.tree (suc place) (base_ready means s es tb e from b) (bp.0, omega arith) room in
+        let mw : made plan ≡ written_by es e = made_is means s es tb e from b plan planned in
         let up : next ≡ s.used + made plan = out.used_up in
         let fits = tb.nodes_fit in
         let fair : AllByRecursion Fair (next_list es e) = without Fair w.fair in
@@ -90,7 +90,7 @@ module _ {R Q S : Type 0} (means : Summing R Q) (rows : S → List (List R)) (s 
         record {
           written = grew;
           stands = record {
-            tables = edit_stands means s es tb e from b plan planned (rows store) nodes at next noted out grown size (omega arith) (omega arith) is fair few;
+            tables = edit_stands means s es tb e from b plan planned nodes at next noted out grown size (omega arith) (omega arith) is fair few;
             stored = rows_next (rows store) e es st.stored (without (λ x. slice_get (rows store) x.content.number ≡ Some x.content.row) (st.stored base));
           };
         }

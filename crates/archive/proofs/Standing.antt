@@ -128,10 +128,10 @@ module _ {R : Type 0} (es : List (Edit R)) (xs : List (Item R)) (t : Laid) (shap
   in_store rows h = tree_stored rows (content_of es) t (subst (AllByRecursion (λ i. Stored rows (content_of es i))) (sym ids)
       (lead_stored rows, known_all es (Stored rows) xs known (always_stored rows xs h)))
 
-  pub ready : {Q : Type 0} (means : Summing R Q) (rows : List (List R)) (nodes : List (Node Q)) (used : ℕ) → Holds means (content_of es) nodes t → Under used t → RowsStand rows xs
-      → Ready means rows (content_of es) nodes used (root t) t
-  ready means rows nodes used h u r =
+  pub ready : {Q : Type 0} (means : Summing R Q) (nodes : List (Node Q)) (used : ℕ) → Holds means (content_of es) nodes t → Under used t
+      → Ready means (content_of es) nodes used (root t) t
+  ready means nodes used h u =
       let x = root_spot t in
       let l = u x.0 x.1 in
       let i = x.2 in
-      record { holds = h; here = refl; under = omega arith; stored = in_store rows r; counted = counted }
+      record { holds = h; here = refl; under = omega arith; counted = counted }

@@ -56,7 +56,7 @@ module _ {R Q S : Type 0} (means : Summing R Q) (keeps : Keeping S R) where
       (es : List (Edit R)) → Stands means keeps.rows es t store →
       ByRefusal (change_refusal t es base place (length row)) r (λ b. RowAccepted es t store (change base place) row b nodes versions after) (keeps.refuses store row)
 
--- What a removal left, whatever the tables held; the store is only read.
+-- What a removal left, whatever the tables held; the store is not touched.
 pub record RemovalDone {Q : Type 0} (t : Tables Q) (b : Built) (nodes : List (Node Q)) (versions : List Version) : Type 0 where
   pub grown : Grown t.nodes t.used nodes b.used
   pub version : Version

@@ -1,4 +1,4 @@
-// A removal: the look, the walk, the record. The store is only read.
+// A removal: the look, the walk, the record. The store is not touched: it is named for the law, by which it still stands for the edits.
 ghost use Rattle.std.specs.Prelude.{◌<◌, OnOk};
 ghost use Rattle.archive.specs.Stands.{tables_of};
 ghost use Rattle.archive.specs.Editing.{RemovalLeft, RemovalLaw};
@@ -25,7 +25,7 @@ pub(crate) fn removal_in<S: BlockStore, Q: Summary<Reading = S::Reading> + Copy>
     ensures room { OnOk result (count < 4096) }
 {
     let from = look_removal(nodes, used, versions, count, base, place)?;
-    let built = write_removal(nodes, used, store, from.root, place + 1);
+    let built = write_removal(nodes, used, from.root, place + 1);
     let blocks = blocks_in(nodes, built.root);
     let readings = readings_in(nodes, built.root);
     let version = Version {

@@ -74,6 +74,7 @@ pub(crate) fn free_node<Q: Summary>() -> Node<Q> {
         readings: 66,
         blocks: 55,
         summary: Q::nothing(),
+        row: Q::nothing(),
     }
 }
 

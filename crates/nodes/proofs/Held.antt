@@ -11,7 +11,7 @@ use Rattle.nodes.specs.declared.node.Shape.{Shape}
 use Rattle.nodes.specs.declared.node.Shape.TheVariants.{Leaf, Fork}
 use Rattle.laid.specs.Laid.{Laid, last, leaf, fork, plain, root, leader}
 use Rattle.nodes.specs.Holding.{Content, own_blocks, node_of, Holds, Grown, Counted}
-use Rattle.nodes.specs.Views.{seen, blocks_in}
+use Rattle.nodes.specs.Views.{seen, blocks_in, row_in}
 use Rattle.nodes.specs.Walking.{Ready}
 
 pub leaves_some : (t : Tree) → 0 < leaves t
@@ -102,16 +102,20 @@ module _ {R Q : Type 0} (s : Summing R Q) (c : ℕ → Content R) where
       let here : blocks_in (slice_get table at) ≡ (node_of s c t).blocks = ap (λ i. blocks_in (slice_get table i)) (sym e) ∙ ap blocks_in (held_root table t h) in
       ap (λ n. n + 1) here ∙ blocks_of t k
 
-module _ {R Q : Type 0} (s : Summing R Q) (rows : List (List R)) (c : ℕ → Content R) where
-  pub ready_leaf : {table : List (Node Q)} {used at e a : ℕ} {t : Laid} (k : ℕ) → root t ≡ k → Ready s rows c table used at (leaf e a t) → Ready s rows c table used k t
-  ready_leaf k i h = let u = h.under in let b = h.holds.1 in record { holds = h.holds.2; here = i; under = omega arith; stored = h.stored.1; counted = counted_leaf c h.counted }
+  -- the summary of its own row that the root keeps
+  pub row_held : (table : List (Node Q)) (at : ℕ) (t : Laid) → Holds s c table t → root t ≡ at → row_in s (slice_get table at) ≡ (node_of s c t).row
+  row_held table at t h e = ap (λ i. row_in s (slice_get table i)) (sym e) ∙ ap (row_in s) (held_root table t h)
 
-  pub ready_below : {table : List (Node Q)} {used at e m : ℕ} {x y : Laid} (k : ℕ) → root x ≡ k → Ready s rows c table used at (fork e m x y) → Ready s rows c table used k x
-  ready_below k i h = let u = h.under in let b = h.holds.1 in record { holds = h.holds.3; here = i; under = omega arith; stored = h.stored.0; counted = counted_below c h.counted }
+module _ {R Q : Type 0} (s : Summing R Q) (c : ℕ → Content R) where
+  pub ready_leaf : {table : List (Node Q)} {used at e a : ℕ} {t : Laid} (k : ℕ) → root t ≡ k → Ready s c table used at (leaf e a t) → Ready s c table used k t
+  ready_leaf k i h = let u = h.under in let b = h.holds.1 in record { holds = h.holds.2; here = i; under = omega arith; counted = counted_leaf c h.counted }
 
-  pub ready_after : {table : List (Node Q)} {used at e m : ℕ} {x y : Laid} (k : ℕ) → root y ≡ k → Ready s rows c table used at (fork e m x y) → Ready s rows c table used k y
-  ready_after k i h = let u = h.under in let b = h.holds.2 in record { holds = h.holds.4; here = i; under = omega arith; stored = h.stored.1; counted = counted_after c h.counted }
+  pub ready_below : {table : List (Node Q)} {used at e m : ℕ} {x y : Laid} (k : ℕ) → root x ≡ k → Ready s c table used at (fork e m x y) → Ready s c table used k x
+  ready_below k i h = let u = h.under in let b = h.holds.1 in record { holds = h.holds.3; here = i; under = omega arith; counted = counted_below c h.counted }
+
+  pub ready_after : {table : List (Node Q)} {used at e m : ℕ} {x y : Laid} (k : ℕ) → root y ≡ k → Ready s c table used at (fork e m x y) → Ready s c table used k y
+  ready_after k i h = let u = h.under in let b = h.holds.2 in record { holds = h.holds.4; here = i; under = omega arith; counted = counted_after c h.counted }
 
   -- a tree that is ready stays so where the table grows
-  pub ready_on : {before after : List (Node Q)} {used next at : ℕ} (t : Laid) → Grown before used after next → Ready s rows c before used at t → Ready s rows c after next at t
-  ready_on t g h = let u = h.under in let m = g.more in record { holds = held_on s c t g h.under h.holds; here = h.here; under = omega arith; stored = h.stored; counted = h.counted }
+  pub ready_on : {before after : List (Node Q)} {used next at : ℕ} (t : Laid) → Grown before used after next → Ready s c before used at t → Ready s c after next at t
+  ready_on t g h = let u = h.under in let m = g.more in record { holds = held_on s c t g h.under h.holds; here = h.here; under = omega arith; counted = h.counted }

@@ -5,17 +5,18 @@ use Rattle.std.proofs.lemmas.Bool.{lt-ltb, le-ltb, cond-true, cond-false}
 use Rattle.flexlist.specs.Building.{keep, new_fork}
 use Rattle.summary.specs.Summing.{Summing}
 use Rattle.nodes.specs.declared.node.Node.{Node}
+use Rattle.nodes.specs.declared.node.Block.{Block}
 use Rattle.nodes.specs.declared.node.Shape.{Shape}
 use Rattle.nodes.specs.declared.node.Shape.TheVariants.{Leaf, Fork}
 use Rattle.laid.specs.Laid.{Laid, last, leaf, fork, root}
 use Rattle.nodes.specs.Holding.{Content, Grown}
-use Rattle.nodes.specs.Views.{seen}
+use Rattle.nodes.specs.Views.{seen, kept_in}
 use Rattle.nodes.specs.Making.{LeafWritten, ForkWritten}
 use Rattle.nodes.specs.Walking.{Ready}
 use Rattle.nodes.specs.Removing.{joined_last, joined_leaf, joined_fork, joined, Merged}
 use Rattle.nodes.proofs.Held.{ready_on, seen_held}
 use Rattle.nodes.proofs.Counts.{at_nothing, at_last, at_followed, at_forked}
-use Rattle.nodes.proofs.Laying.{Laying, room_leaf, room_below, room_beside, lay_kept, lay_leaf, lay_fork}
+use Rattle.nodes.proofs.Laying.{Laying, room_leaf, room_below, room_beside, as_kept, lay_kept, lay_leaf, lay_fork}
 use Rattle.nodes.proofs.Tables.{grown_none}
 
 -- a tree whose root is below a level, or no fork
@@ -46,69 +47,69 @@ no_level e f = let z : ◌≡◌ {A = ℕ} 0 1 = cc in absurd (omega arith)
 pub level_below : {m i o m' i' o' n : ℕ} {v : Option Shape} → Some (Fork m' i' o') ≡ v → m' < n → Some (Fork m i o) ≡ v → m < n
 level_below {m} {m' = m'} e h f = let same : m ≡ m' = cc in omega arith
 
-module _ {R Q : Type 0} (s : Summing R Q) (rows : List (List R)) {before : List (Node Q)} {used first : ℕ} where
-  lower_seen : (c : ℕ → Content R) (n : ℕ) → ((m i o : ℕ) → Some (Fork m i o) ≡ seen first (slice_get before first) → m < n) → (x : Laid) → Ready s rows c before used first x → Lower x n
+module _ {R Q : Type 0} (s : Summing R Q) {before : List (Node Q)} {used first : ℕ} where
+  lower_seen : (c : ℕ → Content R) (n : ℕ) → ((m i o : ℕ) → Some (Fork m i o) ≡ seen first (slice_get before first) → m < n) → (x : Laid) → Ready s c before used first x → Lower x n
   lower_seen c n low (last e a) h = tt
   lower_seen c n low (leaf e a x) h = tt
   lower_seen c n low (fork e m x y) h = low m (root x) (root y) (sym (seen_held s c before first (fork e m x y) h.holds h.here))
 
-module _ {R Q : Type 0} (s : Summing R Q) (rows : List (List R)) (before : List (Node Q)) {used first second : ℕ} where
-  pub merge_nothing : {after : List (Node Q)} {r next : ℕ} → None ≡ seen second (slice_get before second) → Merged s rows before used first second after r next
-  merge_nothing see c x y h k room = absurd (at_nothing s rows c y see k)
+module _ {R Q : Type 0} (s : Summing R Q) (before : List (Node Q)) {used first second : ℕ} where
+  pub merge_nothing : {after : List (Node Q)} {r next : ℕ} → None ≡ seen second (slice_get before second) → Merged s before used first second after r next
+  merge_nothing see c x y h k room = absurd (at_nothing s c y see k)
 
-  pub merge_none : {after : List (Node Q)} {r next : ℕ} → None ≡ seen first (slice_get before first) → Merged s rows before used first second after r next
-  merge_none see c x y h k room = absurd (at_nothing s rows c x see h)
+  pub merge_none : {after : List (Node Q)} {r next : ℕ} → None ≡ seen first (slice_get before first) → Merged s before used first second after r next
+  merge_none see c x y h k room = absurd (at_nothing s c x see h)
 
-  pub merge_kept : {b l : ℕ} → Some (Leaf b l None) ≡ seen second (slice_get before second) → Merged s rows before used first second before first used
+  pub merge_kept : {b l : ℕ} → Some (Leaf b l None) ≡ seen second (slice_get before second) → Merged s before used first second before first used
   merge_kept see c x y h k =
-      at_last s rows c (λ y. Laying s rows c before used before first used (joined x y)) y see k
-      (λ f j _ _. subst (Laying s rows c before used before first used) (sym (joined_kept_is x f j)) (λ room. lay_kept s rows c x h))
+      at_last s c (λ y. Laying s c before used before first used (joined x y)) y see k
+      (λ f j _ _. subst (Laying s c before used before first used) (sym (joined_kept_is x f j)) (λ room. lay_kept s c x h))
 
-  pub merge_last : {after : List (Node Q)} {b l b' l' j next : ℕ} → Some (Leaf b' l' (Some j)) ≡ seen second (slice_get before second) → Some (Leaf b l None) ≡ seen first (slice_get before first)
-      → LeafWritten s rows before used b l (Some j) after next → Merged s rows before used first second after used next
+  pub merge_last : {after : List (Node Q)} {b l b' l' j next : ℕ} {kept : Block Q} → Some (Leaf b' l' (Some j)) ≡ seen second (slice_get before second) → Some (Leaf b l None) ≡ seen first (slice_get before first) → kept ≡ kept_in s b l (slice_get before first)
+      → LeafWritten s before used kept (Some j) after next → Merged s before used first second after used next
   unfolding joined joined_last
-  merge_last {after} {next = next} see' see w c x y h k =
-      at_followed s rows c (λ y. Laying s rows c before used after used next (joined x y)) y see' k
+  merge_last {after} {next = next} see' see z w c x y h k =
+      at_followed s c (λ y. Laying s c before used after used next (joined x y)) y see' k
       (λ f d t _ ready _.
-      at_last s rows c (λ x. Laying s rows c before used after used next (joined x (leaf f d t))) x see h
-      (λ e a old _ room. lay_leaf s rows c before a (keep t) (lay_kept s rows c t ready) w old refl room))
+      at_last s c (λ x. Laying s c before used after used next (joined x (leaf f d t))) x see h
+      (λ e a old _ room. lay_leaf s c before a (keep t) (lay_kept s c t ready) w (as_kept s c z old) refl room))
 
-  pub merge_leaf : {mid after : List (Node Q)} {b l i b' l' j r v next : ℕ} → Some (Leaf b' l' (Some j)) ≡ seen second (slice_get before second) → Some (Leaf b l (Some i)) ≡ seen first (slice_get before first)
-      → Merged s rows before used i second mid r v → length mid ≡ length before
-      → LeafWritten s rows mid v b l (Some r) after next → Merged s rows before used first second after v next
+  pub merge_leaf : {mid after : List (Node Q)} {b l i b' l' j r v next : ℕ} {kept : Block Q} → Some (Leaf b' l' (Some j)) ≡ seen second (slice_get before second) → Some (Leaf b l (Some i)) ≡ seen first (slice_get before first) → kept ≡ kept_in s b l (slice_get before first)
+      → Merged s before used i second mid r v → length mid ≡ length before
+      → LeafWritten s mid v kept (Some r) after next → Merged s before used first second after v next
   unfolding joined joined_leaf
-  merge_leaf {after = after} {v = v} {next = next} see' see part size w c x y h k =
-      at_followed s rows c (λ y. Laying s rows c before used after v next (joined x y)) y see' k
+  merge_leaf {after = after} {v = v} {next = next} see' see z part size w c x y h k =
+      at_followed s c (λ y. Laying s c before used after v next (joined x y)) y see' k
       (λ f d t _ _ k.
-      at_followed s rows c (λ x. Laying s rows c before used after v next (joined x (leaf f d t))) x see h
-      (λ e a x' old ready _ room. lay_leaf s rows c before a (joined x' (leaf f d t)) (part c x' (leaf f d t) ready k (room_leaf s rows c _ room)) w old size room))
+      at_followed s c (λ x. Laying s c before used after v next (joined x (leaf f d t))) x see h
+      (λ e a x' old ready _ room. lay_leaf s c before a (joined x' (leaf f d t)) (part c x' (leaf f d t) ready k (room_leaf s c _ room)) w (as_kept s c z old) size room))
 
   pub merge_fork : {mid after : List (Node Q)} {m i o b' l' j r v next : ℕ} → Some (Leaf b' l' (Some j)) ≡ seen second (slice_get before second) → Some (Fork m i o) ≡ seen first (slice_get before first)
-      → Grown before used mid v → Merged s rows before used o second mid r v → length mid ≡ length before
-      → ForkWritten s mid v m i r after next → Merged s rows before used first second after v next
+      → Grown before used mid v → Merged s before used o second mid r v → length mid ≡ length before
+      → ForkWritten s mid v m i r after next → Merged s before used first second after v next
   unfolding joined joined_fork
   merge_fork {after = after} {m = m} {v = v} {next = next} see' see grown part size w c x y h k =
-      at_followed s rows c (λ y. Laying s rows c before used after v next (joined x y)) y see' k
+      at_followed s c (λ y. Laying s c before used after v next (joined x y)) y see' k
       (λ f d t _ _ k.
-      at_forked s rows c (λ x. Laying s rows c before used after v next (joined x (leaf f d t))) x see h
-      (λ e x₁ x₂ below behind _ room. lay_fork s rows c before m (keep x₁) (joined x₂ (leaf f d t)) (lay_kept s rows c x₁ below) grown (part c x₂ (leaf f d t) behind k (room_beside s rows c x₁ _ room)) w size room))
+      at_forked s c (λ x. Laying s c before used after v next (joined x (leaf f d t))) x see h
+      (λ e x₁ x₂ below behind _ room. lay_fork s c before m (keep x₁) (joined x₂ (leaf f d t)) (lay_kept s c x₁ below) grown (part c x₂ (leaf f d t) behind k (room_beside s c x₁ _ room)) w size room))
 
   pub merge_past : {mid after : List (Node Q)} {m i o n i' o' r v next : ℕ} → Some (Fork n i' o') ≡ seen second (slice_get before second) → Some (Fork m i o) ≡ seen first (slice_get before first) → n ≤ m
-      → Grown before used mid v → Merged s rows before used o second mid r v → length mid ≡ length before
-      → ForkWritten s mid v m i r after next → Merged s rows before used first second after v next
+      → Grown before used mid v → Merged s before used o second mid r v → length mid ≡ length before
+      → ForkWritten s mid v m i r after next → Merged s before used first second after v next
   merge_past {after = after} {m = m} {n = n} {v = v} {next = next} see' see high grown part size w c x y h k =
-      at_forked s rows c (λ y. Laying s rows c before used after v next (joined x y)) y see' k
+      at_forked s c (λ y. Laying s c before used after v next (joined x y)) y see' k
       (λ f y₁ y₂ _ _ k.
-      at_forked s rows c (λ x. Laying s rows c before used after v next (joined x (fork f n y₁ y₂))) x see h
+      at_forked s c (λ x. Laying s c before used after v next (joined x (fork f n y₁ y₂))) x see h
       (λ e x₁ x₂ below behind _.
-      subst (Laying s rows c before used after v next) (sym (joined_past_is e m x₁ x₂ f n y₁ y₂ high))
-      (λ room. lay_fork s rows c before m (keep x₁) (joined x₂ (fork f n y₁ y₂)) (lay_kept s rows c x₁ below) grown (part c x₂ (fork f n y₁ y₂) behind k (room_beside s rows c x₁ _ room)) w size room)))
+      subst (Laying s c before used after v next) (sym (joined_past_is e m x₁ x₂ f n y₁ y₂ high))
+      (λ room. lay_fork s c before m (keep x₁) (joined x₂ (fork f n y₁ y₂)) (lay_kept s c x₁ below) grown (part c x₂ (fork f n y₁ y₂) behind k (room_beside s c x₁ _ room)) w size room)))
 
   pub merge_under : {mid after : List (Node Q)} {n i o r v next : ℕ} → Some (Fork n i o) ≡ seen second (slice_get before second) → ((m i o : ℕ) → Some (Fork m i o) ≡ seen first (slice_get before first) → m < n)
-      → Grown before used mid v → Merged s rows before used first i mid r v → length mid ≡ length before
-      → ForkWritten s mid v n r o after next → Merged s rows before used first second after v next
+      → Grown before used mid v → Merged s before used first i mid r v → length mid ≡ length before
+      → ForkWritten s mid v n r o after next → Merged s before used first second after v next
   merge_under {mid} {after} {n = n} {v = v} {next = next} see' low grown part size w c x y h k =
-      at_forked s rows c (λ y. Laying s rows c before used after v next (joined x y)) y see' k
+      at_forked s c (λ y. Laying s c before used after v next (joined x y)) y see' k
       (λ f y₁ y₂ below behind _.
-      subst (Laying s rows c before used after v next) (sym (joined_under_is x f n y₁ y₂ (lower_seen s rows c n low x h)))
-      (λ room. lay_fork s rows c before n (joined x y₁) (keep y₂) (part c x y₁ h below (room_below s rows c _ _ room)) (grown_none mid v) (lay_kept s rows c y₂ (ready_on s rows c y₂ grown behind)) w size room))
+      subst (Laying s c before used after v next) (sym (joined_under_is x f n y₁ y₂ (lower_seen s c n low x h)))
+      (λ room. lay_fork s c before n (joined x y₁) (keep y₂) (part c x y₁ h below (room_below s c _ _ room)) (grown_none mid v) (lay_kept s c y₂ (ready_on s c y₂ grown behind)) w size room))

@@ -4,53 +4,58 @@ use Rattle.std.specs.List.{slice_get}
 use Rattle.flexlist.specs.Building.{Plan, keep, new_last, new_leaf, new_fork, made}
 use Rattle.summary.specs.Summing.{Summing}
 use Rattle.nodes.specs.declared.node.Node.{Node}
+use Rattle.nodes.specs.declared.node.Block.{Block}
 use Rattle.laid.specs.Laid.{Laid, root, lay}
 use Rattle.nodes.specs.Holding.{Content, fork_node, node_of, Holds, Grown}
-use Rattle.nodes.specs.Making.{LeafWritten, ForkWritten}
-use Rattle.nodes.specs.Walking.{Ready, Room, LaidOut, BlockOf}
+use Rattle.nodes.specs.Making.{LeafOf, LeafWritten, ForkWritten}
+use Rattle.nodes.specs.Walking.{Ready, Room, LaidOut}
 use Rattle.nodes.proofs.Held.{held_root, held_on}
 
-module _ {R Q : Type 0} (s : Summing R Q) (rows : List (List R)) (c : ℕ → Content R) where
+module _ {R Q : Type 0} (s : Summing R Q) (c : ℕ → Content R) where
   -- a plan is laid out if there is room for it
   abbrev pub Laying : List (Node Q) → ℕ → List (Node Q) → ℕ → ℕ → Plan Laid → Type 0
-  Laying before u after at next plan = Room s rows c before u plan → LaidOut s rows c u plan after at next
+  Laying before u after at next plan = Room s c before u plan → LaidOut s c u plan after at next
 
   -- room for a part
-  pub room_leaf : {before : List (Node Q)} {u a : ℕ} (x : Plan Laid) → Room s rows c before u (new_leaf a x) → Room s rows c before u x
+  pub room_leaf : {before : List (Node Q)} {u a : ℕ} (x : Plan Laid) → Room s c before u (new_leaf a x) → Room s c before u x
   unfolding made
   room_leaf x h = let fits = h.fits in let few = h.few in record { fits = omega arith; few = omega arith }
 
-  pub room_below : {before : List (Node Q)} {u m : ℕ} (x y : Plan Laid) → Room s rows c before u (new_fork m x y) → Room s rows c before u x
+  pub room_below : {before : List (Node Q)} {u m : ℕ} (x y : Plan Laid) → Room s c before u (new_fork m x y) → Room s c before u x
   unfolding made
   room_below x y h = let fits = h.fits in let few = h.few in record { fits = omega arith; few = omega arith }
 
-  pub room_after : (before : List (Node Q)) {mid : List (Node Q)} {u v m : ℕ} (x y : Plan Laid) → length mid ≡ length before → v ≡ u + made x → Room s rows c before u (new_fork m x y) → Room s rows c mid v y
+  pub room_after : (before : List (Node Q)) {mid : List (Node Q)} {u v m : ℕ} (x y : Plan Laid) → length mid ≡ length before → v ≡ u + made x → Room s c before u (new_fork m x y) → Room s c mid v y
   unfolding made
   room_after before x y size up h = let fits = h.fits in let few = h.few in record { fits = omega arith; few = omega arith }
 
-  pub room_beside : {before : List (Node Q)} {u m : ℕ} (x : Laid) (y : Plan Laid) → Room s rows c before u (new_fork m (keep x) y) → Room s rows c before u y
+  pub room_beside : {before : List (Node Q)} {u m : ℕ} (x : Laid) (y : Plan Laid) → Room s c before u (new_fork m (keep x) y) → Room s c before u y
   unfolding made
   room_beside x y h = let fits = h.fits in let few = h.few in record { fits = omega arith; few = omega arith }
 
   -- a piece that is kept
-  pub lay_kept : {table : List (Node Q)} {u at : ℕ} (t : Laid) → Ready s rows c table u at t → LaidOut s rows c u (keep t) table at u
+  pub lay_kept : {table : List (Node Q)} {u at : ℕ} (t : Laid) → Ready s c table u at t → LaidOut s c u (keep t) table at u
   unfolding lay made
   lay_kept t h = record { holds = h.holds; here = h.here; under = h.under; used_up = omega arith }
 
+  -- a leaf written anew keeps what the old one kept
+  pub as_kept : {k : Content R} {kept old : Block Q} → kept ≡ old → LeafOf s k old → LeafOf s k kept
+  as_kept e h = subst (LeafOf s _) (sym e) h
+
   -- a new leaf with nothing after it
-  pub lay_last : {before after : List (Node Q)} {u b l next : ℕ} (n : ℕ) → LeafWritten s rows before u b l None after next
-      → BlockOf rows (c n) b l → Room s rows c before u (new_last n) → LaidOut s rows c u (new_last n) after u next
+  pub lay_last : {before after : List (Node Q)} {u next : ℕ} {block : Block Q} (n : ℕ) → LeafWritten s before u block None after next
+      → LeafOf s (c n) block → Room s c before u (new_last n) → LaidOut s c u (new_last n) after u next
   unfolding lay made node_of
   lay_last n w k room =
       let fits = room.fits in
       let few = room.few in
-      let there = w.there (omega arith) (omega arith) (c n) k.stored k.number k.size None tt in
+      let there = w.there (omega arith) (omega arith) (c n) k None tt in
       let end = there.1 in
       record { holds = there.0; here = refl; under = omega arith; used_up = end }
 
   -- a new leaf over what was laid last
-  pub lay_leaf : (before : List (Node Q)) {mid after : List (Node Q)} {u v at b l next : ℕ} (a : ℕ) (x : Plan Laid) → LaidOut s rows c u x mid at v → LeafWritten s rows mid v b l (Some at) after next
-      → BlockOf rows (c a) b l → length mid ≡ length before → Room s rows c before u (new_leaf a x) → LaidOut s rows c u (new_leaf a x) after v next
+  pub lay_leaf : (before : List (Node Q)) {mid after : List (Node Q)} {u v at next : ℕ} {block : Block Q} (a : ℕ) (x : Plan Laid) → LaidOut s c u x mid at v → LeafWritten s mid v block (Some at) after next
+      → LeafOf s (c a) block → length mid ≡ length before → Room s c before u (new_leaf a x) → LaidOut s c u (new_leaf a x) after v next
   unfolding lay made node_of
   lay_leaf before {mid} {after} {u} {v} {at} a x p w k size room =
       let fits = room.fits in
@@ -59,7 +64,7 @@ module _ {R Q : Type 0} (s : Summing R Q) (rows : List (List R)) (c : ℕ → Co
       let up = p.used_up in
       let t = lay x u in
       let follows : slice_get mid at ≡ Some (node_of s c t) = ap (slice_get mid) (sym p.here) ∙ held_root s c mid t p.holds in
-      let there = w.there (omega arith) (omega arith) (c a) k.stored k.number k.size (Some (root t, node_of s c t)) (sym p.here, follows) in
+      let there = w.there (omega arith) (omega arith) (c a) k (Some (root t, node_of s c t)) (sym p.here, follows) in
       let end = there.1 in
       record {
         holds = (ap (slice_get after) (sym up) ∙ there.0, omega arith, held_on s c t w.grown low p.holds);
@@ -69,8 +74,8 @@ module _ {R Q : Type 0} (s : Summing R Q) (rows : List (List R)) (c : ℕ → Co
       }
 
   -- a new fork over two trees, the second laid after the first
-  pub lay_fork : (before : List (Node Q)) {mid then after : List (Node Q)} {u v w j k next : ℕ} (m : ℕ) (x y : Plan Laid) → LaidOut s rows c u x mid j v → Grown mid v then w → LaidOut s rows c v y then k w
-      → ForkWritten s then w m j k after next → length then ≡ length before → Room s rows c before u (new_fork m x y) → LaidOut s rows c u (new_fork m x y) after w next
+  pub lay_fork : (before : List (Node Q)) {mid then after : List (Node Q)} {u v w j k next : ℕ} (m : ℕ) (x y : Plan Laid) → LaidOut s c u x mid j v → Grown mid v then w → LaidOut s c v y then k w
+      → ForkWritten s then w m j k after next → length then ≡ length before → Room s c before u (new_fork m x y) → LaidOut s c u (new_fork m x y) after w next
   unfolding lay made node_of
   lay_fork before {mid} {then} {after} {u} {v} {w} {j} {k} m x y p g q f size room =
       let fits = room.fits in
@@ -78,7 +83,7 @@ module _ {R Q : Type 0} (s : Summing R Q) (rows : List (List R)) (c : ℕ → Co
       let more = g.more in
       let low = p.under in
       let up = p.used_up in
-      let q' : LaidOut s rows c (u + made x) y then k w = subst (λ i. LaidOut s rows c i y then k w) up q in
+      let q' : LaidOut s c (u + made x) y then k w = subst (λ i. LaidOut s c i y then k w) up q in
       let low' = q'.under in
       let up' = q'.used_up in
       let s₁ = lay x u in

@@ -4,8 +4,10 @@ use Rattle.flexlist.specs.Building.{Plan, keep, new_last, new_leaf, new_fork}
 use Rattle.flexlist.specs.Nodes.{leaves}
 use Rattle.summary.specs.Summing.{Summing}
 use Rattle.nodes.specs.declared.node.Node.{Node}
+use Rattle.nodes.specs.declared.node.Block.{Block}
 use Rattle.laid.specs.Laid.{Laid, last, leaf, fork, plain}
 use Rattle.nodes.specs.Holding.{Content}
+use Rattle.nodes.specs.Making.{LeafOf}
 use Rattle.nodes.specs.Walking.{BlockOf, Walked}
 
 -- whether a tree ends at a place
@@ -45,15 +47,20 @@ insert_at n k (fork e m x y) p =
     (cond (nat_lt m k) (cut_at n k (fork e m x y) p) (new_fork m (keep x) (insert_at n k y (p - leaves (plain x)))))
 
 -- what the walks leave that make the left piece, the right piece, both under a fork, and the tree with the block put in
-abbrev pub LeftMade : {R Q : Type 0} → Summing R Q → List (List R) → List (Node Q) → ℕ → ℕ → ℕ → List (Node Q) → ℕ → ℕ → Type 0
-LeftMade {R} s rows before used at upto after root next = (c : ℕ → Content R) → Walked s rows c left_at before used at upto after root next
+abbrev pub LeftMade : {R Q : Type 0} → Summing R Q → List (Node Q) → ℕ → ℕ → ℕ → List (Node Q) → ℕ → ℕ → Type 0
+LeftMade {R} s before used at upto after root next = (c : ℕ → Content R) → Walked s c left_at before used at upto after root next
 
-module _ {R Q : Type 0} (s : Summing R Q) (rows : List (List R)) (before : List (Node Q)) (used at upto block len : ℕ) (after : List (Node Q)) (root next : ℕ) where
+module _ {R Q : Type 0} (s : Summing R Q) (before : List (Node Q)) (used at upto : ℕ) (block : Block Q) (after : List (Node Q)) (root next : ℕ) where
   abbrev pub RightMade : Type 0
-  RightMade = (c : ℕ → Content R) (n : ℕ) → BlockOf rows (c n) block len → Walked s rows c (right_at n) before used at upto after root next
+  RightMade = (c : ℕ → Content R) (n : ℕ) → LeafOf s (c n) block → Walked s c (right_at n) before used at upto after root next
 
   abbrev pub CutMade : ℕ → Type 0
-  CutMade level = (c : ℕ → Content R) (n : ℕ) → BlockOf rows (c n) block len → Walked s rows c (cut_at n level) before used at upto after root next
+  CutMade level = (c : ℕ → Content R) (n : ℕ) → LeafOf s (c n) block → Walked s c (cut_at n level) before used at upto after root next
 
-  abbrev pub Inserted : ℕ → Type 0
-  Inserted level = (c : ℕ → Content R) (n : ℕ) → BlockOf rows (c n) block len → Walked s rows c (insert_at n level) before used at upto after root next
+  abbrev pub InsertMade : ℕ → Type 0
+  InsertMade level = (c : ℕ → Content R) (n : ℕ) → LeafOf s (c n) block → Walked s c (insert_at n level) before used at upto after root next
+
+-- the last for a stored block
+abbrev pub Inserted : {R Q : Type 0} → Summing R Q → List (List R) → List (Node Q) → ℕ → ℕ → ℕ → ℕ → ℕ → List (Node Q) → ℕ → ℕ → ℕ → Type 0
+Inserted {R} s rows before used at upto block len after root next level =
+    (c : ℕ → Content R) (n : ℕ) → BlockOf rows (c n) block len → Walked s c (insert_at n level) before used at upto after root next

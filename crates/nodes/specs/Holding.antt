@@ -13,28 +13,31 @@ abbrev pub own_blocks : ℕ → ℕ
 own_blocks n = min 1 n
 
 module _ {R Q : Type 0} (s : Summing R Q) where
-  -- a leaf's node, from its block and what follows it: an entry and the node there
+  -- a leaf's node, from its block and what follows it: an entry and the node there. It keeps the summary of its own row beside that of its stretch.
   abbrev pub leaf_node : Content R → Option (ℕ × Node Q) → Node Q
   leaf_node c None = record {
     shape = Leaf c.number (length c.row) None;
     readings = length c.row % 2 ^ 32;
     blocks = own_blocks (length c.row);
     summary = summary_of s c.row;
+    row = summary_of s c.row;
   }
   leaf_node c (Some n) = record {
     shape = Leaf c.number (length c.row) (Some n.0);
     readings = (length c.row + n.1.readings) % 2 ^ 32;
     blocks = (own_blocks (length c.row) + n.1.blocks) % 2 ^ 32;
     summary = s.join (summary_of s c.row) n.1.summary;
+    row = summary_of s c.row;
   }
 
-  -- a fork's node, from what is below and after it
+  -- a fork's node, from what is below and after it; it has no row of its own
   abbrev pub fork_node : ℕ → ℕ × Node Q → ℕ × Node Q → Node Q
   fork_node m x y = record {
     shape = Fork m x.0 y.0;
     readings = (x.1.readings + y.1.readings) % 2 ^ 32;
     blocks = (x.1.blocks + y.1.blocks) % 2 ^ 32;
     summary = s.join x.1.summary y.1.summary;
+    row = s.none;
   }
 
   -- the node that must stand at the root of a laid tree, where c says what each identity's block holds

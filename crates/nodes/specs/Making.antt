@@ -3,17 +3,18 @@ use Rattle.std.specs.Prelude.{◌≡◌, ℕ, ◌+◌, ◌-◌, ◌^◌, ◌<◌
 use Rattle.std.specs.List.{slice_get}
 use Rattle.summary.specs.Summing.{Summing, summary_of}
 use Rattle.nodes.specs.declared.node.Node.{Node}
+use Rattle.nodes.specs.declared.node.Block.{Block}
 use Rattle.nodes.specs.Holding.{Content, Grown, leaf_node, fork_node}
 
 -- the row that stands in a list of rows under a block's number; the lead, which has no reading, stands in none
 abbrev pub Stored : {R : Type 0} → List (List R) → Content R → Type 0
 Stored rows c = 0 < length c.row → slice_get rows c.number ≡ Some c.row
 
-module _ {R Q : Type 0} (s : Summing R Q) (rows : List (List R)) where
-  -- the summary of a part of a stored row, from place a to b − 1
-  abbrev pub PartSummed : ℕ → ℕ → ℕ → Q → Type 0
-  PartSummed block a b r = (c : Content R) → Stored rows c → block ≡ c.number → a ≤ b → b ≤ length c.row → r ≡ summary_of s (take (b - a) (drop a c.row))
+-- the summary of a part of a stored row, from place a to b − 1
+abbrev pub PartSummed : {R Q : Type 0} → Summing R Q → List (List R) → ℕ → ℕ → ℕ → Q → Type 0
+PartSummed {R} s rows block a b r = (c : Content R) → Stored rows c → block ≡ c.number → a ≤ b → b ≤ length c.row → r ≡ summary_of s (take (b - a) (drop a c.row))
 
+module _ {R Q : Type 0} (s : Summing R Q) where
   -- what follows a leaf: nothing, or the node that stands at an entry
   abbrev pub Follows : List (Node Q) → Option ℕ → Option (ℕ × Node Q) → Type 0
   Follows table None None = Unit {0}
@@ -21,10 +22,16 @@ module _ {R Q : Type 0} (s : Summing R Q) (rows : List (List R)) where
   Follows table (Some e) None = ⊥
   Follows table (Some e) (Some n) = (e ≡ n.0) × (slice_get table e ≡ Some n.1)
 
-  -- a leaf written at the entry `used`, for a stored block and what follows it
-  pub record LeafWritten (before : List (Node Q)) (used block len : ℕ) (after : Option ℕ) (left : List (Node Q)) (next : ℕ) : Type 0 where
+  -- a block's number, its length and its row's summary, as its leaf keeps them
+  pub record LeafOf (c : Content R) (block : Block Q) : Type 0 where
+    pub number : block.number ≡ c.number
+    pub size : block.length ≡ length c.row
+    pub sum : block.row ≡ summary_of s c.row
+
+  -- a leaf written at the entry `used`, for a block and what follows it
+  pub record LeafWritten (before : List (Node Q)) (used : ℕ) (block : Block Q) (after : Option ℕ) (left : List (Node Q)) (next : ℕ) : Type 0 where
     pub grown : Grown before used left next
-    pub there : used < length before → used + 1 < 2 ^ 32 → (c : Content R) → Stored rows c → block ≡ c.number → len ≡ length c.row → (n : Option (ℕ × Node Q)) → Follows before after n →
+    pub there : used < length before → used + 1 < 2 ^ 32 → (c : Content R) → LeafOf c block → (n : Option (ℕ × Node Q)) → Follows before after n →
         (slice_get left used ≡ Some (leaf_node s c n)) × (next ≡ used + 1)
 
 -- a fork written at the entry `used`, over the nodes that stand at two entries

@@ -4,9 +4,11 @@ use Rattle.flexlist.specs.Building.{Plan, keep, new_last, new_leaf, new_fork}
 use Rattle.flexlist.specs.Nodes.{leaves}
 use Rattle.summary.specs.Summing.{Summing}
 use Rattle.nodes.specs.declared.node.Node.{Node}
+use Rattle.nodes.specs.declared.node.Block.{Block}
 use Rattle.laid.specs.Laid.{Laid, last, leaf, fork, plain}
 use Rattle.nodes.specs.Holding.{Content}
-use Rattle.nodes.specs.Walking.{Ready, Room, LaidOut, BlockOf, Walked}
+use Rattle.nodes.specs.Making.{LeafOf}
+use Rattle.nodes.specs.Walking.{Ready, Room, LaidOut, Walked}
 
 -- the tree with the identity n for its leader's
 unfoldable pub led_by : ℕ → Laid → Plan Laid
@@ -43,19 +45,19 @@ remove_at (fork e m x y) p =
     cond (nat_lt p (leaves (plain x))) (new_fork m (remove_at x p) (keep y))
     (cond (nat_lt (leaves (plain x)) p) (new_fork m (keep x) (remove_at y (p - leaves (plain x)))) (joined x y))
 
-module _ {R Q : Type 0} (s : Summing R Q) (rows : List (List R)) (before : List (Node Q)) (used : ℕ) where
+module _ {R Q : Type 0} (s : Summing R Q) (before : List (Node Q)) (used : ℕ) where
   -- what the walk leaves that gives a tree another leader
-  abbrev pub Led : ℕ → ℕ → ℕ → List (Node Q) → ℕ → ℕ → Type 0
-  Led at block len after root next =
-      (c : ℕ → Content R) (n : ℕ) → BlockOf rows (c n) block len → (t : Laid) → Ready s rows c before used at t →
-      Room s rows c before used (led_by n t) → LaidOut s rows c used (led_by n t) after root next
+  abbrev pub Led : ℕ → Block Q → List (Node Q) → ℕ → ℕ → Type 0
+  Led at block after root next =
+      (c : ℕ → Content R) (n : ℕ) → LeafOf s (c n) block → (t : Laid) → Ready s c before used at t →
+      Room s c before used (led_by n t) → LaidOut s c used (led_by n t) after root next
 
   -- what the walk leaves that joins two trees
   abbrev pub Merged : ℕ → ℕ → List (Node Q) → ℕ → ℕ → Type 0
   Merged first second after root next =
-      (c : ℕ → Content R) (x y : Laid) → Ready s rows c before used first x → Ready s rows c before used second y →
-      Room s rows c before used (joined x y) → LaidOut s rows c used (joined x y) after root next
+      (c : ℕ → Content R) (x y : Laid) → Ready s c before used first x → Ready s c before used second y →
+      Room s c before used (joined x y) → LaidOut s c used (joined x y) after root next
 
   -- what the walk leaves that takes a block out
   abbrev pub Removed : ℕ → ℕ → List (Node Q) → ℕ → ℕ → Type 0
-  Removed at upto after root next = (c : ℕ → Content R) → Walked s rows c remove_at before used at upto after root next
+  Removed at upto after root next = (c : ℕ → Content R) → Walked s c remove_at before used at upto after root next

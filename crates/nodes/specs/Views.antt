@@ -1,7 +1,9 @@
 -- What a walk sees at an entry, what it writes, and what a write leaves. Assumes nothing.
 use Rattle.std.specs.Prelude.{◌≡◌, ℕ, ◌+◌, ◌^◌, ◌<◌, Bool, true, cond, ◌&&◌, List, length, Some, None, Option, nat_lt}
 use Rattle.std.specs.List.{slice_get}
+use Rattle.summary.specs.Summing.{Summing}
 use Rattle.nodes.specs.declared.node.Node.{Node}
+use Rattle.nodes.specs.declared.node.Block.{Block}
 use Rattle.nodes.specs.declared.node.Shape.{Shape}
 use Rattle.nodes.specs.declared.node.Shape.TheVariants.{Leaf, Fork}
 use Rattle.nodes.specs.Holding.{Grown}
@@ -30,6 +32,15 @@ blocks_in (Some n) = n.blocks
 abbrev pub readings_in : {Q : Type 0} → Option (Node Q) → ℕ
 readings_in None = 0
 readings_in (Some n) = n.readings
+
+-- the summary of its own row that the node at an entry keeps, that of no reading where there is none
+abbrev pub row_in : {R Q : Type 0} → Summing R Q → Option (Node Q) → Q
+row_in s None = s.none
+row_in s (Some n) = n.row
+
+-- the block of a leaf's entry, by the number and length seen there
+abbrev pub kept_in : {R Q : Type 0} → Summing R Q → ℕ → ℕ → Option (Node Q) → Block Q
+kept_in s number len entry = record { number = number; length = len; row = row_in s entry }
 
 -- A node written at the entry `used`: the table grew by it, where there is room and a next entry has a number.
 pub record Wrote {Q : Type 0} (before : List (Node Q)) (used : ℕ) (node : Node Q) (after : List (Node Q)) (next : ℕ) : Type 0 where

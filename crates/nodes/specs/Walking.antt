@@ -4,9 +4,10 @@ use Rattle.flexlist.specs.Building.{Plan, made}
 use Rattle.flexlist.specs.Nodes.{leaves}
 use Rattle.summary.specs.Summing.{Summing}
 use Rattle.nodes.specs.declared.node.Node.{Node}
+use Rattle.nodes.specs.declared.node.Block.{Block}
 use Rattle.laid.specs.Laid.{Laid, last, leaf, fork, plain, root, leader, lay}
 use Rattle.nodes.specs.Holding.{Content, Holds, Counted, own_blocks}
-use Rattle.nodes.specs.Making.{Stored}
+use Rattle.nodes.specs.Making.{Stored, LeafOf}
 
 -- every block of a laid tree stands in the list of rows under its number
 abbrev pub AllStored : {R : Type 0} → List (List R) → (ℕ → Content R) → Laid → Type 0
@@ -14,13 +15,12 @@ AllStored rows c (last e a) = Stored rows (c a)
 AllStored rows c (leaf e a t) = Stored rows (c a) × AllStored rows c t
 AllStored rows c (fork e m x y) = AllStored rows c x × AllStored rows c y
 
-module _ {R Q : Type 0} (s : Summing R Q) (rows : List (List R)) (c : ℕ → Content R) where
+module _ {R Q : Type 0} (s : Summing R Q) (c : ℕ → Content R) where
   -- the table holds the tree t, whose root is the entry `at`, below the free entries
   pub record Ready (table : List (Node Q)) (used at : ℕ) (t : Laid) : Type 0 where
     pub holds : Holds s c table t
     pub here : root t ≡ at
     pub under : root t < used
-    pub stored : AllStored rows c t
     pub counted : Counted c t
 
   -- there is room for all that the plan makes
@@ -41,12 +41,16 @@ pub record BlockOf {R : Type 0} (rows : List (List R)) (k : Content R) (block le
   pub number : block ≡ k.number
   pub size : len ≡ length k.row
 
+-- a block that is read from the store, as its leaf keeps it
+abbrev pub BlockRead : {R Q : Type 0} → Summing R Q → List (List R) → ℕ → ℕ → Block Q → Type 0
+BlockRead {R} s rows block len read = (k : Content R) → BlockOf rows k block len → LeafOf s k read
+
 -- a place of a tree, by how many blocks stand up to it and with it: the lead counts as none
 abbrev pub CountedTo : {R : Type 0} → (ℕ → Content R) → Laid → ℕ → ℕ → Type 0
 CountedTo c t place upto = (place < leaves (plain t)) × (upto ≡ place + own_blocks (length (c (leader t)).row))
 
 -- what a walk to a place leaves, for every tree that the table holds where it starts: the plan of an edit at the place, laid out
-abbrev pub Walked : {R Q : Type 0} → Summing R Q → List (List R) → (ℕ → Content R) → (Laid → ℕ → Plan Laid) → List (Node Q) → ℕ → ℕ → ℕ → List (Node Q) → ℕ → ℕ → Type 0
-Walked s rows c edit before used at upto after root next =
-    (t : Laid) (place : ℕ) → Ready s rows c before used at t → CountedTo c t place upto →
-    Room s rows c before used (edit t place) → LaidOut s rows c used (edit t place) after root next
+abbrev pub Walked : {R Q : Type 0} → Summing R Q → (ℕ → Content R) → (Laid → ℕ → Plan Laid) → List (Node Q) → ℕ → ℕ → ℕ → List (Node Q) → ℕ → ℕ → Type 0
+Walked s c edit before used at upto after root next =
+    (t : Laid) (place : ℕ) → Ready s c before used at t → CountedTo c t place upto →
+    Room s c before used (edit t place) → LaidOut s c used (edit t place) after root next

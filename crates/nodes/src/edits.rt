@@ -1,6 +1,5 @@
 // The edits of a tree in the table, each laid into the next free entries; places are given by how many blocks stand up to them.
 // The slice and its next free entry stay two parameters: the archive's table hands its slice to functions, and that form is the project's rule.
-// So do a block's number and length: each step takes a leaf's shape apart, and a pair of them would be put together again at each write.
 // Thin over functions with the same promise: those have proofs written by hand, and a fault here is then refused for the fact that fails.
 ghost use Rattle.nodes.specs.Holding.{Grown};
 ghost use Rattle.nodes.specs.Changing.{Changed};
@@ -49,15 +48,14 @@ pub fn write_insert<S: BlockStore, Q: Summary<Reading = S::Reading> + Copy>(
 }
 
 // Writes the tree at an entry without the block that `upto` blocks lead to.
-pub fn write_removal<S: BlockStore, Q: Summary<Reading = S::Reading> + Copy>(
+pub fn write_removal<Q: Summary + Copy>(
     nodes: &mut [Node<Q>],
     used: u32,
-    store: &S,
     at: u32,
     upto: u32,
 ) -> Built
     ensures grown { Grown nodes.old used nodes.new result.used }
-    ensures removed { Removed Q.Summary.means (S.BlockStore.rows store.now) nodes.old used at upto nodes.new result.root result.used }
+    ensures removed { Removed Q.Summary.means nodes.old used at upto nodes.new result.root result.used }
 {
-    remove(nodes, used, store, at, upto)
+    remove(nodes, used, at, upto)
 }

@@ -1,32 +1,30 @@
 // A block put into a tree.
 ghost use Rattle.std.specs.Prelude.{◌≡◌, nat_le, nat_lt};
 ghost use Rattle.nodes.specs.Holding.{Grown};
-ghost use Rattle.nodes.specs.Cutting.{CutMade, Inserted};
+ghost use Rattle.nodes.specs.Cutting.{CutMade, InsertMade, Inserted};
 
-use crate::makers::{write_fork, write_leaf};
-use crate::node::{Node, Shape};
+use crate::makers::{read, write_fork, write_leaf};
+use crate::node::{Block, Node, Shape};
 use crate::pieces::{left, right};
-use crate::table::{blocks_in, view};
+use crate::table::{blocks_in, kept_block, view};
 use crate::walks::Built;
 use store::BlockStore;
 use summary::Summary;
 
 // Writes the tree cut after the block that `upto` blocks lead to, under a fork of the level given, the block given first after it.
-fn cut<S: BlockStore, Q: Summary<Reading = S::Reading> + Copy>(
+fn cut<Q: Summary + Copy>(
     nodes: &mut [Node<Q>],
     used: u32,
-    store: &S,
     at: u32,
     upto: u32,
     level: u8,
-    block: u32,
-    length: u32,
+    block: Block<Q>,
 ) -> Built
     ensures grown { Grown nodes.old used nodes.new result.used }
-    ensures made { CutMade Q.Summary.means (S.BlockStore.rows store.now) nodes.old used at upto block length nodes.new result.root result.used level }
+    ensures made { CutMade Q.Summary.means nodes.old used at upto block nodes.new result.root result.used level }
 {
-    let first = left(nodes, used, store, at, upto);
-    let second = right(nodes, first.used, store, at, upto, block, length);
+    let first = left(nodes, used, at, upto);
+    let second = right(nodes, first.used, at, upto, block);
     write_fork(nodes, second.used, level, first.root, second.root)
 }
 
@@ -45,44 +43,44 @@ fn cuts_after(level: u8, fork: u8) -> bool
 }
 
 // Writes the tree with the block given, of the level given, after the block that `upto` blocks lead to.
-pub(crate) fn insert<S: BlockStore, Q: Summary<Reading = S::Reading> + Copy>(
+fn insert_walk<Q: Summary + Copy>(
     nodes: &mut [Node<Q>],
     used: u32,
-    store: &S,
     at: u32,
     upto: u32,
     level: u8,
-    block: u32,
-    length: u32,
+    block: Block<Q>,
 ) -> Built
     ensures grown { Grown nodes.old used nodes.new result.used }
-    ensures inserted { Inserted Q.Summary.means (S.BlockStore.rows store.now) nodes.old used at upto block length nodes.new result.root result.used level }
+    ensures made { InsertMade Q.Summary.means nodes.old used at upto block nodes.new result.root result.used level }
 {
     let Some(shape) = view(nodes, at) else {
         return Built { root: at, used };
     };
     match shape {
-        Shape::Leaf { .. } if level > 0 => cut(nodes, used, store, at, upto, level, block, length),
+        Shape::Leaf { .. } if level > 0 => cut(nodes, used, at, upto, level, block),
         Shape::Leaf {
-            block: old,
-            length: len,
+            block: number,
+            length,
             after: None,
         } => {
-            let leaf = write_leaf(nodes, used, store, block, length, None);
-            write_leaf(nodes, leaf.used, store, old, len, Some(leaf.root))
+            let kept = kept_block(nodes, at, number, length);
+            let leaf = write_leaf(nodes, used, block, None);
+            write_leaf(nodes, leaf.used, kept, Some(leaf.root))
         }
         Shape::Leaf {
-            block: old,
-            length: len,
+            block: number,
+            length,
             after: Some(after),
         } => {
-            let own = len.min(1);
+            let kept = kept_block(nodes, at, number, length);
+            let own = length.min(1);
             if upto <= own {
-                let leaf = write_leaf(nodes, used, store, block, length, Some(after));
-                return write_leaf(nodes, leaf.used, store, old, len, Some(leaf.root));
+                let leaf = write_leaf(nodes, used, block, Some(after));
+                return write_leaf(nodes, leaf.used, kept, Some(leaf.root));
             }
-            let rest = insert(nodes, used, store, after, upto - own, level, block, length);
-            write_leaf(nodes, rest.used, store, old, len, Some(rest.root))
+            let rest = insert_walk(nodes, used, after, upto - own, level, block);
+            write_leaf(nodes, rest.used, kept, Some(rest.root))
         }
         Shape::Fork {
             level: high,
@@ -92,25 +90,34 @@ pub(crate) fn insert<S: BlockStore, Q: Summary<Reading = S::Reading> + Copy>(
             let count = blocks_in(nodes, below);
             if upto <= count {
                 if cuts_before(level, high) {
-                    return cut(nodes, used, store, at, upto, level, block, length);
+                    return cut(nodes, used, at, upto, level, block);
                 }
-                let part = insert(nodes, used, store, below, upto, level, block, length);
+                let part = insert_walk(nodes, used, below, upto, level, block);
                 return write_fork(nodes, part.used, high, part.root, after);
             }
             if cuts_after(level, high) {
-                return cut(nodes, used, store, at, upto, level, block, length);
+                return cut(nodes, used, at, upto, level, block);
             }
-            let part = insert(
-                nodes,
-                used,
-                store,
-                after,
-                upto - count,
-                level,
-                block,
-                length,
-            );
+            let part = insert_walk(nodes, used, after, upto - count, level, block);
             write_fork(nodes, part.used, high, below, part.root)
         }
     }
+}
+
+// The same for a stored block.
+pub(crate) fn insert<S: BlockStore, Q: Summary<Reading = S::Reading> + Copy>(
+    nodes: &mut [Node<Q>],
+    used: u32,
+    store: &S,
+    at: u32,
+    upto: u32,
+    level: u8,
+    number: u32,
+    length: u32,
+) -> Built
+    ensures grown { Grown nodes.old used nodes.new result.used }
+    ensures inserted { Inserted Q.Summary.means (S.BlockStore.rows store.now) nodes.old used at upto number length nodes.new result.root result.used level }
+{
+    let block = read(store, number, length);
+    insert_walk(nodes, used, at, upto, level, block)
 }

@@ -1,4 +1,4 @@
-// The nodes of versions in a table, and the walks over it. A walk takes time in proportion to its path and the rows of the leaves it writes.
+// The nodes of versions in a table, and the walks over it. A walk takes time in proportion to its path; of the rows, an edit reads the new one alone.
 #![tactic(auto)]
 
 mod change;
@@ -13,6 +13,6 @@ mod walks;
 
 pub use edits::{write_change, write_insert, write_removal};
 pub use makers::part_summary;
-pub use node::{Node, Shape};
-pub use table::{blocks_in, entry, put, readings_in, view as view_at};
+pub use node::{Block, Node, Shape};
+pub use table::{blocks_in, entry, kept_block, put, readings_in, view as view_at};
 pub use walks::Built;

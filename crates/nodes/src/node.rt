@@ -24,12 +24,23 @@ pub enum Shape {
 }
 
 // A node, with the counts of the readings and blocks of its whole stretch, and their summary. The lead is no block.
+// `row` is the summary of a leaf's own row, and of no reading at a fork: where a leaf is written anew, or lies in a span with its
+// row but not with its stretch, the row itself need not be read again.
 #[derive(Clone, Copy, PartialEq, Eq, Debug)]
 pub struct Node<Q> {
     pub shape: Shape,
     pub readings: u32,
     pub blocks: u32,
     pub summary: Q,
+    pub row: Q,
+}
+
+// A block as its leaf keeps it: its number in the store, its length, and the summary of its row.
+#[derive(Clone, Copy, PartialEq, Eq, Debug)]
+pub struct Block<Q> {
+    pub number: u32,
+    pub length: u32,
+    pub row: Q,
 }
 
 impl<Q: Summary> Node<Q> {
@@ -46,6 +57,7 @@ impl<Q: Summary> Node<Q> {
             readings: 0,
             blocks: 0,
             summary: Q::nothing(),
+            row: Q::nothing(),
         }
     }
 }

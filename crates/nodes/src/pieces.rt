@@ -1,13 +1,12 @@
 // The pieces of a tree that is cut after a place.
 ghost use Rattle.std.specs.Prelude.{◌≡◌, ◌==◌};
 ghost use Rattle.nodes.specs.Holding.{Grown};
-ghost use Rattle.nodes.specs.Cutting.{LeftMade, RightMade, CutMade};
+ghost use Rattle.nodes.specs.Cutting.{LeftMade, RightMade};
 
 use crate::makers::{write_fork, write_leaf};
-use crate::node::{Node, Shape};
-use crate::table::{blocks_in, view};
+use crate::node::{Block, Node, Shape};
+use crate::table::{blocks_in, kept_block, view};
 use crate::walks::Built;
-use store::BlockStore;
 use summary::Summary;
 
 // Does a piece of so many blocks end just at the cut? It is then kept.
@@ -18,15 +17,9 @@ fn ends_at_cut(blocks: u32, upto: u32) -> bool
 }
 
 // Writes the tree up to the block that `upto` blocks lead to; what ends just there is kept.
-pub(crate) fn left<S: BlockStore, Q: Summary<Reading = S::Reading> + Copy>(
-    nodes: &mut [Node<Q>],
-    used: u32,
-    store: &S,
-    at: u32,
-    upto: u32,
-) -> Built
+pub(crate) fn left<Q: Summary + Copy>(nodes: &mut [Node<Q>], used: u32, at: u32, upto: u32) -> Built
     ensures grown { Grown nodes.old used nodes.new result.used }
-    ensures made { LeftMade Q.Summary.means (S.BlockStore.rows store.now) nodes.old used at upto nodes.new result.root result.used }
+    ensures made { LeftMade Q.Summary.means nodes.old used at upto nodes.new result.root result.used }
 {
     if ends_at_cut(blocks_in(nodes, at), upto) {
         return Built { root: at, used };
@@ -37,16 +30,17 @@ pub(crate) fn left<S: BlockStore, Q: Summary<Reading = S::Reading> + Copy>(
     match shape {
         Shape::Leaf { after: None, .. } => Built { root: at, used },
         Shape::Leaf {
-            block,
+            block: number,
             length,
             after: Some(after),
         } => {
+            let kept = kept_block(nodes, at, number, length);
             let own = length.min(1);
             if upto <= own {
-                return write_leaf(nodes, used, store, block, length, None);
+                return write_leaf(nodes, used, kept, None);
             }
-            let rest = left(nodes, used, store, after, upto - own);
-            write_leaf(nodes, rest.used, store, block, length, Some(rest.root))
+            let rest = left(nodes, used, after, upto - own);
+            write_leaf(nodes, rest.used, kept, Some(rest.root))
         }
         Shape::Fork {
             level,
@@ -55,42 +49,40 @@ pub(crate) fn left<S: BlockStore, Q: Summary<Reading = S::Reading> + Copy>(
         } => {
             let count = blocks_in(nodes, below);
             if upto <= count {
-                return left(nodes, used, store, below, upto);
+                return left(nodes, used, below, upto);
             }
-            let part = left(nodes, used, store, after, upto - count);
+            let part = left(nodes, used, after, upto - count);
             write_fork(nodes, part.used, level, below, part.root)
         }
     }
 }
 
 // Writes what stands after the block that `upto` blocks lead to, led by the block given.
-pub(crate) fn right<S: BlockStore, Q: Summary<Reading = S::Reading> + Copy>(
+pub(crate) fn right<Q: Summary + Copy>(
     nodes: &mut [Node<Q>],
     used: u32,
-    store: &S,
     at: u32,
     upto: u32,
-    block: u32,
-    length: u32,
+    block: Block<Q>,
 ) -> Built
     ensures grown { Grown nodes.old used nodes.new result.used }
-    ensures made { RightMade Q.Summary.means (S.BlockStore.rows store.now) nodes.old used at upto block length nodes.new result.root result.used }
+    ensures made { RightMade Q.Summary.means nodes.old used at upto block nodes.new result.root result.used }
 {
     let Some(shape) = view(nodes, at) else {
         return Built { root: at, used };
     };
     match shape {
-        Shape::Leaf { after: None, .. } => write_leaf(nodes, used, store, block, length, None),
+        Shape::Leaf { after: None, .. } => write_leaf(nodes, used, block, None),
         Shape::Leaf {
-            length: len,
+            length,
             after: Some(after),
             ..
         } => {
-            let own = len.min(1);
+            let own = length.min(1);
             if upto <= own {
-                return write_leaf(nodes, used, store, block, length, Some(after));
+                return write_leaf(nodes, used, block, Some(after));
             }
-            right(nodes, used, store, after, upto - own, block, length)
+            right(nodes, used, after, upto - own, block)
         }
         Shape::Fork {
             level,
@@ -99,10 +91,10 @@ pub(crate) fn right<S: BlockStore, Q: Summary<Reading = S::Reading> + Copy>(
         } => {
             let count = blocks_in(nodes, below);
             if upto <= count {
-                let part = right(nodes, used, store, below, upto, block, length);
+                let part = right(nodes, used, below, upto, block);
                 return write_fork(nodes, part.used, level, part.root, after);
             }
-            right(nodes, used, store, after, upto - count, block, length)
+            right(nodes, used, after, upto - count, block)
         }
     }
 }

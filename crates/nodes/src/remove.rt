@@ -4,35 +4,27 @@ ghost use Rattle.nodes.specs.Holding.{Grown};
 ghost use Rattle.nodes.specs.Removing.{Led, Merged, Removed};
 
 use crate::makers::{write_fork, write_leaf};
-use crate::node::{Node, Shape};
-use crate::table::{blocks_in, view};
+use crate::node::{Block, Node, Shape};
+use crate::table::{blocks_in, kept_block, view};
 use crate::walks::Built;
-use store::BlockStore;
 use summary::Summary;
 
 // Writes the tree with the block given for its leader.
-fn lead_by<S: BlockStore, Q: Summary<Reading = S::Reading> + Copy>(
-    nodes: &mut [Node<Q>],
-    used: u32,
-    store: &S,
-    at: u32,
-    block: u32,
-    length: u32,
-) -> Built
+fn lead_by<Q: Summary + Copy>(nodes: &mut [Node<Q>], used: u32, at: u32, block: Block<Q>) -> Built
     ensures grown { Grown nodes.old used nodes.new result.used }
-    ensures led { Led Q.Summary.means (S.BlockStore.rows store.now) nodes.old used at block length nodes.new result.root result.used }
+    ensures led { Led Q.Summary.means nodes.old used at block nodes.new result.root result.used }
 {
     let Some(shape) = view(nodes, at) else {
         return Built { root: at, used };
     };
     match shape {
-        Shape::Leaf { after, .. } => write_leaf(nodes, used, store, block, length, after),
+        Shape::Leaf { after, .. } => write_leaf(nodes, used, block, after),
         Shape::Fork {
             level,
             below,
             after,
         } => {
-            let part = lead_by(nodes, used, store, below, block, length);
+            let part = lead_by(nodes, used, below, block);
             write_fork(nodes, part.used, level, part.root, after)
         }
     }
@@ -46,15 +38,9 @@ fn second_over(first: u8, second: u8) -> bool
 }
 
 // Writes the first tree, then the second without its leader; where the second has no more than its leader, the first is kept.
-fn merge<S: BlockStore, Q: Summary<Reading = S::Reading> + Copy>(
-    nodes: &mut [Node<Q>],
-    used: u32,
-    store: &S,
-    first: u32,
-    second: u32,
-) -> Built
+fn merge<Q: Summary + Copy>(nodes: &mut [Node<Q>], used: u32, first: u32, second: u32) -> Built
     ensures grown { Grown nodes.old used nodes.new result.used }
-    ensures merged { Merged Q.Summary.means (S.BlockStore.rows store.now) nodes.old used first second nodes.new result.root result.used }
+    ensures merged { Merged Q.Summary.means nodes.old used first second nodes.new result.root result.used }
 {
     let Some(one) = view(nodes, first) else {
         return Built { root: first, used };
@@ -69,24 +55,28 @@ fn merge<S: BlockStore, Q: Summary<Reading = S::Reading> + Copy>(
             ..
         } => match one {
             Shape::Leaf {
-                block,
+                block: number,
                 length,
                 after: None,
-            } => write_leaf(nodes, used, store, block, length, Some(rest)),
+            } => {
+                let kept = kept_block(nodes, first, number, length);
+                write_leaf(nodes, used, kept, Some(rest))
+            }
             Shape::Leaf {
-                block,
+                block: number,
                 length,
                 after: Some(after),
             } => {
-                let part = merge(nodes, used, store, after, second);
-                write_leaf(nodes, part.used, store, block, length, Some(part.root))
+                let kept = kept_block(nodes, first, number, length);
+                let part = merge(nodes, used, after, second);
+                write_leaf(nodes, part.used, kept, Some(part.root))
             }
             Shape::Fork {
                 level,
                 below,
                 after,
             } => {
-                let part = merge(nodes, used, store, after, second);
+                let part = merge(nodes, used, after, second);
                 write_fork(nodes, part.used, level, below, part.root)
             }
         },
@@ -96,7 +86,7 @@ fn merge<S: BlockStore, Q: Summary<Reading = S::Reading> + Copy>(
             after: rest,
         } => match one {
             Shape::Leaf { .. } => {
-                let part = merge(nodes, used, store, first, low);
+                let part = merge(nodes, used, first, low);
                 write_fork(nodes, part.used, high, part.root, rest)
             }
             Shape::Fork {
@@ -105,10 +95,10 @@ fn merge<S: BlockStore, Q: Summary<Reading = S::Reading> + Copy>(
                 after,
             } => {
                 if second_over(level, high) {
-                    let part = merge(nodes, used, store, first, low);
+                    let part = merge(nodes, used, first, low);
                     return write_fork(nodes, part.used, high, part.root, rest);
                 }
-                let part = merge(nodes, used, store, after, second);
+                let part = merge(nodes, used, after, second);
                 write_fork(nodes, part.used, level, below, part.root)
             }
         },
@@ -116,15 +106,14 @@ fn merge<S: BlockStore, Q: Summary<Reading = S::Reading> + Copy>(
 }
 
 // Writes the tree without the block that `upto` blocks lead to.
-pub(crate) fn remove<S: BlockStore, Q: Summary<Reading = S::Reading> + Copy>(
+pub(crate) fn remove<Q: Summary + Copy>(
     nodes: &mut [Node<Q>],
     used: u32,
-    store: &S,
     at: u32,
     upto: u32,
 ) -> Built
     ensures grown { Grown nodes.old used nodes.new result.used }
-    ensures removed { Removed Q.Summary.means (S.BlockStore.rows store.now) nodes.old used at upto nodes.new result.root result.used }
+    ensures removed { Removed Q.Summary.means nodes.old used at upto nodes.new result.root result.used }
 {
     let Some(shape) = view(nodes, at) else {
         return Built { root: at, used };
@@ -132,16 +121,17 @@ pub(crate) fn remove<S: BlockStore, Q: Summary<Reading = S::Reading> + Copy>(
     match shape {
         Shape::Leaf { after: None, .. } => Built { root: at, used },
         Shape::Leaf {
-            block,
+            block: number,
             length,
             after: Some(after),
         } => {
+            let kept = kept_block(nodes, at, number, length);
             let own = length.min(1);
             if upto <= own + 1 {
-                return lead_by(nodes, used, store, after, block, length);
+                return lead_by(nodes, used, after, kept);
             }
-            let rest = remove(nodes, used, store, after, upto - own);
-            write_leaf(nodes, rest.used, store, block, length, Some(rest.root))
+            let rest = remove(nodes, used, after, upto - own);
+            write_leaf(nodes, rest.used, kept, Some(rest.root))
         }
         Shape::Fork {
             level,
@@ -150,13 +140,13 @@ pub(crate) fn remove<S: BlockStore, Q: Summary<Reading = S::Reading> + Copy>(
         } => {
             let count = blocks_in(nodes, below);
             if upto <= count {
-                let part = remove(nodes, used, store, below, upto);
+                let part = remove(nodes, used, below, upto);
                 return write_fork(nodes, part.used, level, part.root, after);
             }
             if upto - count == 1 {
-                return merge(nodes, used, store, below, after);
+                return merge(nodes, used, below, after);
             }
-            let part = remove(nodes, used, store, after, upto - count);
+            let part = remove(nodes, used, after, upto - count);
             write_fork(nodes, part.used, level, below, part.root)
         }
     }

@@ -1,10 +1,11 @@
 // Reading and writing single entries of a table of nodes. Every index is tested, so a walk is safe on any table.
 ghost use Rattle.std.specs.Prelude.{◌≡◌, slice_set};
 ghost use Rattle.std.specs.List.{slice_get};
-ghost use Rattle.nodes.specs.Views.{parts_below, seen, blocks_in, readings_in, Wrote};
+ghost use Rattle.nodes.specs.Views.{parts_below, seen, blocks_in, readings_in, kept_in, Wrote};
 
-use crate::node::{Node, Shape};
+use crate::node::{Block, Node, Shape};
 use crate::walks::Built;
+use summary::Summary;
 
 // The node at an entry.
 pub fn entry<Q: Copy>(nodes: &[Node<Q>], at: u32) -> Option<Node<Q>>
@@ -43,6 +44,23 @@ pub fn readings_in<Q: Copy>(nodes: &[Node<Q>], at: u32) -> u32
     ensures { result ≡ readings_in (slice_get nodes.now at) }
 {
     entry(nodes, at).map_or(0, |node| node.readings)
+}
+
+// The block of a leaf's entry, of the number and length that are seen there: the node keeps the summary of its row.
+pub fn kept_block<Q: Summary + Copy>(
+    nodes: &[Node<Q>],
+    at: u32,
+    number: u32,
+    length: u32,
+) -> Block<Q>
+    ensures { result ≡ kept_in Q.Summary.means number length (slice_get nodes.now at) }
+{
+    let row = entry(nodes, at).map_or(Q::nothing(), |node| node.row);
+    Block {
+        number,
+        length,
+        row,
+    }
 }
 
 // Writes an entry of a slice, if the slice has it.

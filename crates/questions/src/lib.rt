@@ -1,4 +1,6 @@
-// The questions that one version's tree answers, by walks over the table that write nothing. Every walk ends on any table.
+// The questions that one version's tree answers, by walks over the table that write nothing. Every walk ends on any table. A walk
+// takes time in proportion to the paths that it goes; beside that, `span` reads what it copies, and `summary` the rows that its
+// span cuts, two at most.
 // Thin over functions with the same promise (`span`: from a place in the output on): those have proofs written by hand, and a fault here is then refused for the fact that fails.
 #![tactic(auto)]
 

@@ -15,6 +15,7 @@ pub(super) fn free_node<Q: Summary>() -> Node<Q> {
         readings: 66,
         blocks: 55,
         summary: Q::nothing(),
+        row: Q::nothing(),
     }
 }
 

@@ -1,4 +1,0 @@
-use Rattle.nodes.proofs.insert.+insert.Given as goal
-
-abbrev pub decreases-insert : goal.decreases-insert
-decreases-insert g l = l.at
