@@ -19,10 +19,12 @@ module _ {R Q S : Type 0} (means : Summing R Q) (keeps : Keeping S R) (k : Codin
       → LoadLaw means keeps k (record { tables = record { nodes = begun_nodes; used = begun.used; versions = begun_versions; count = begun.count }; store = store }) area bytes r t after
       → LoadedFrom means keeps k nodes versions store area bytes r t after
   loaded_from nodes begun_nodes versions begun_versions begun store area after bytes r t begins law =
+      let stood = begun_stands means keeps nodes begun_nodes versions begun_versions begun store area begins in
       record {
         begun = begun;
         begun_nodes = begun_nodes;
         begun_versions = begun_versions;
         begins = begins;
-        loads = law (begun_history nodes versions) (begun_stands means keeps nodes begun_nodes versions begun_versions begun store area begins);
+        stood = stood;
+        loads = law (begun_history nodes versions) stood;
       }

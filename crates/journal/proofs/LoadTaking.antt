@@ -1,6 +1,6 @@
 -- An edit of a journal that was taken in, or why none was. Assumes nothing.
 use Rattle.store.specs.Keeping.{Keeping}
-use Rattle.std.proofs.Common.{◌≡◌, ℕ, ◌+◌, ◌<◌, ◌≤◌, List, [], ◌++◌, length, take, drop, Ok, Err, sym, refl, ap, ◌∙◌, subst, append_assoc, append-nil, add-zero, arith, length-append}
+use Rattle.std.proofs.Common.{◌≡◌, ℕ, ◌+◌, ◌<◌, ◌≤◌, List, [], ◌++◌, length, take, drop, Ok, Err, Result, sym, refl, ap, ◌∙◌, subst, append_assoc, append-nil, add-zero, arith, length-append}
 use Rattle.std.proofs.lemmas.List.{take_at, nil_from_length}
 use Rattle.summary.specs.Summing.{Summing}
 use Rattle.archive.specs.declared.fault.EditFault.{EditFault}
@@ -17,7 +17,7 @@ use Rattle.journal.specs.Faults.{Opens, NoRecord}
 use Rattle.journal.specs.Faults as faults
 use Rattle.journal.specs.Reads.{RowThere, RowStopped}
 use Rattle.journal.specs.Records.{entry_with, record_bytes, StepFits, RecordThere}
-use Rattle.journal.specs.Taking.{EntryTaken, EntryStopped, bad, refused}
+use Rattle.journal.specs.Taking.{ended, EntryTaken, EntryStopped, bad, refused, OneTaken}
 
 -- a record with a row that has readings opens an insert or a change
 pub record RowOpens (front : List ℕ) (n size : ℕ) (more : List ℕ) : Type 0 where
@@ -120,7 +120,7 @@ module _ {R Q S : Type 0} (means : Summing R Q) (keeps : Keeping S R) (k : Codin
       unfolding e
       fits_is = made.fit
 
-      pub entry_taken : (x : Accepted) → EditKept means keeps s (asked_of (entry_with o.step given)) (Ok x) t → EditLaw means keeps s (asked_of (entry_with o.step given)) (Ok x) t
+      entry_taken : (x : Accepted) → EditKept means keeps s (asked_of (entry_with o.step given)) (Ok x) t → EditLaw means keeps s (asked_of (entry_with o.step given)) (Ok x) t
           → EntryTaken means keeps k s area bytes at end t after
       unfolding e
       entry_taken x kept law =
@@ -140,9 +140,15 @@ module _ {R Q S : Type 0} (means : Summing R Q) (keeps : Keeping S R) (k : Codin
             put = put_is;
           }
 
-      pub entry_refused : (x : EditFault) → EditKept means keeps s (asked_of (entry_with o.step given)) (Err x) t → EditLaw means keeps s (asked_of (entry_with o.step given)) (Err x) t
+      entry_refused : (x : EditFault) → EditKept means keeps s (asked_of (entry_with o.step given)) (Err x) t → EditLaw means keeps s (asked_of (entry_with o.step given)) (Err x) t
           → EntryStopped means keeps k s area bytes at (record { fault = fault.Edit x; place = at }) t after
       unfolding e
       entry_refused x kept law =
           refused e (drop end bytes) x fits_is room_is bytes_there (subst (λ u. EditLaw means keeps s (asked_of e) (Err x) u) kept (subst (λ l. EditLaw means keeps s (asked_of (entry_with o.step l)) (Err x) t) row_given law))
           refl kept put_is
+
+      -- whatever the archive answers
+      pub entry_sent : (r : Result Accepted EditFault) → EditKept means keeps s (asked_of (entry_with o.step given)) r t → EditLaw means keeps s (asked_of (entry_with o.step given)) r t
+          → OneTaken means keeps k s area bytes at (ended r at end) t after
+      entry_sent (Ok x) kept law = entry_taken x kept law
+      entry_sent (Err x) kept law = entry_refused x kept law

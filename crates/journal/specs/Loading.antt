@@ -78,4 +78,5 @@ module _ {R Q S : Type 0} (means : Summing R Q) (keeps : Keeping S R) where
       pub begun_nodes : List (Node Q)
       pub begun_versions : List Version
       pub begins : Begin means nodes versions begun begun_nodes begun_versions
+      pub stood : Standing means keeps (begun_history nodes versions) (record { tables = record { nodes = begun_nodes; used = begun.used; versions = begun_versions; count = begun.count }; store = store })
       pub loads : Loads (begun_history nodes versions) (record { tables = record { nodes = begun_nodes; used = begun.used; versions = begun_versions; count = begun.count }; store = store }) area bytes r t area_after

@@ -10,6 +10,11 @@ use Rattle.journal.specs.declared.fault.LoadFault.{LoadFault}
 use Rattle.journal.specs.Format.{Coding, Entry, row_of, asked_of, entry_bytes, Fits}
 use Rattle.journal.specs.Faults.{NoEdit}
 
+-- what an archive's answer to the edit at a place is for the loading, where the edit ends at another
+abbrev pub ended : Result Accepted EditFault → ℕ → ℕ → Result ℕ LoadFault
+ended (Ok x) at end = Ok end
+ended (Err f) at end = Err (record { fault = fault.Edit f; place = at })
+
 module _ {R Q S : Type 0} (means : Summing R Q) (keeps : Keeping S R) where
   -- an entry that the archive accepted, by the contract of the call
   pub record Sent (s : Archive Q S) (e : Entry R) (t : Archive Q S) : Type 0 where

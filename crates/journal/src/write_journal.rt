@@ -48,6 +48,7 @@ fn write_archive<S: BlockStore, Q: Summary<Reading = S::Reading> + Copy>(
     out: &mut [u8],
 ) -> Result<usize, JournalFault>
     ensures left { WriteLeft out.old result out.new }
+    ensures exact { Writes (tables_bytes (coding S.Reading.Reading.own) (S.BlockStore.rows store.now) versions.now table.now.count) out.old result out.new }
     ensures law { S.Reading.Reading.CODE < 252 → WriteLaw Q.Summary.means S.BlockStore (coding S.Reading.Reading.own) (archive_of table.now versions.now store.now) out.old result out.new }
 {
     write_tables(versions, table.count(), store, out)
@@ -63,6 +64,7 @@ pub fn write<S: BlockStore, Q: Summary<Reading = S::Reading> + Copy>(
     out: &mut [u8],
 ) -> Result<usize, JournalFault>
     ensures left { WriteLeft out.old result out.new }
+    ensures exact { Writes (tables_bytes (coding S.Reading.Reading.own) (S.BlockStore.rows store.now) versions.now table.now.count) out.old result out.new }
     ensures law { S.Reading.Reading.CODE < 252 → WriteLaw Q.Summary.means S.BlockStore (coding S.Reading.Reading.own) (archive_of table.now versions.now store.now) out.old result out.new }
 {
     write_archive(table, versions, store, out)

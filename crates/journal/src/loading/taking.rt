@@ -4,16 +4,29 @@ ghost use Rattle.std.specs.Prelude.{◌≡◌, ◌<◌, length};
 ghost use Rattle.archive.specs.Calling.{archive_of};
 ghost use Rattle.journal.specs.Format.{coding};
 ghost use Rattle.journal.specs.Loading.{LoadLaw};
-ghost use Rattle.journal.specs.Taking.{OneTaken};
+ghost use Rattle.journal.specs.Taking.{ended, OneTaken};
 
 use super::opening::Opening;
 use super::records::opening_at;
 use super::sending::send;
 use crate::fault::LoadFault;
 use crate::read::{check_head, read_row};
-use archive::{NodeTable, Version};
+use archive::{Accepted, EditFault, NodeTable, Version};
 use store::BlockStore;
 use summary::Summary;
+
+// Where an edit that the archive accepted ends; its refusal, with the byte place of its record.
+fn ended(answer: Result<Accepted, EditFault>, at: usize, end: usize) -> Result<usize, LoadFault>
+    ensures { result ≡ ended answer at end }
+{
+    match answer {
+        Ok(_) => Ok(end),
+        Err(fault) => Err(LoadFault {
+            fault: fault.into(),
+            place: at,
+        }),
+    }
+}
 
 // Takes in the edit whose record stands at a place, and answers where it ends. Its readings go to the row area.
 fn take_in<S: BlockStore, Q: Summary<Reading = S::Reading> + Copy>(
@@ -32,11 +45,8 @@ fn take_in<S: BlockStore, Q: Summary<Reading = S::Reading> + Copy>(
         |fault| LoadFault { fault, place: at },
     )?;
     let end = read_row(bytes, next, count, area)?;
-    send(table, versions, store, step, &area[..count]).map_err(|fault| LoadFault {
-        fault: fault.into(),
-        place: at,
-    })?;
-    Ok(end)
+    let answer = send(table, versions, store, step, &area[..count]);
+    ended(answer, at, end)
 }
 
 // Takes in the edits of a journal, one after another, up to its end or to the first fault; answers how many versions there are then.
