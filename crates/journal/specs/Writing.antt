@@ -1,6 +1,6 @@
 -- What writing an archive's journal answers and leaves, and the two round trips. Assumes nothing.
 use Rattle.store.specs.Keeping.{Keeping}
-use Rattle.std.specs.Prelude.{◌≡◌, ℕ, suc, ◌≤◌, List, [], ◌++◌, map, length, take, drop, Some, None, Ok, Err, MatchBool, Result, ◌≢◌, nat_le}
+use Rattle.std.specs.Prelude.{◌≡◌, ℕ, suc, ◌≤◌, List, ◌++◌, map, length, take, drop, Some, None, Ok, Err, MatchBool, Result, ◌≢◌, nat_le}
 use Rattle.summary.specs.Summing.{Summing}
 use Rattle.history.specs.Edits.{Item, Edit, list_of}
 use Rattle.nodes.specs.declared.node.Node.{Node}
