@@ -1,4 +1,5 @@
 pub mod Bytes
 pub mod Inserts
 pub mod Begins
+pub mod Known
 pub mod Takes
