@@ -1,0 +1,5 @@
+//! The comparison without a persistent vector.
+
+fn main() {
+    compare::main_with(None);
+}
