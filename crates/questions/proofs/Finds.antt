@@ -1,7 +1,6 @@
 -- One step of a walk to the block that has a reading. Assumes nothing.
 use Rattle.std.proofs.Common.{◌≡◌, ℕ, zero, suc, ◌+◌, ◌-◌, ◌%◌, ◌^◌, ◌<◌, ◌≤◌, List, [], ◌∷◌, ◌++◌, map, length, get_or, Some, None, Option, sym, refl, ap, ◌∙◌, subst, ⊎_elim, arith, length-append, get_or-append-add}
 use Rattle.std.proofs.lemmas.List.{get_or_append_left}
-use Rattle.std.specs.Prelude.{IsSomeAnd, MatchOption}
 use Rattle.std.specs.List.{slice_get}
 use Rattle.std.proofs.lemmas.Bool.{lt-ltb, le-ltb, cond-true, cond-false, cases_lt}
 use Rattle.flexlist.specs.Shape.{Tree}
@@ -16,7 +15,7 @@ use Rattle.nodes.specs.Views.{seen, readings_in}
 use Rattle.nodes.proofs.Held.{leaves_some}
 use Rattle.questions.specs.declared.found.Found.{Found}
 use Rattle.questions.specs.Readings.{in_order, row_with, rows_of, readings_of, Small}
-use Rattle.questions.specs.Finding.{block_at, FoundAt, FoundIn, farther, Finds}
+use Rattle.questions.specs.Finding.{block_at, FoundAt, FoundIn, Finds, found_from, Near, FindsFrom}
 use Rattle.questions.proofs.Held.{at_nothing, at_last, at_leaf, at_fork}
 use Rattle.questions.proofs.Counts.{nodes_few}
 use Rattle.questions.proofs.Ways.{nodes_below, nodes_after}
@@ -24,15 +23,10 @@ use Rattle.questions.proofs.Readings.{readings_last, readings_leaf, readings_for
 
 -- ---- positions in one list after another
 
--- one node further from the root, where there is a block
+-- one node further from the root, where it is found
 abbrev pub farther_if : Option Found → Option Found
 farther_if None = None
-farther_if (Some f) = Some (farther f)
-
-pub farther_is : (q r : Option Found) → MatchOption q (r ≡ None) (λ f. IsSomeAnd r (λ g. g ≡ farther f)) → r ≡ farther_if q
-farther_is None r h = h
-farther_is (Some f) None h = absurd h
-farther_is (Some f) (Some g) h = ap Some h
+farther_if (Some f) = Some (record { block = f.block; place = f.place; path = (f.path + 1) % 2 ^ 32 })
 
 module _ {A : Type 0} where
   pub nth_left : (xs ys : List A) (i : ℕ) → i < length xs → slice_get (xs ++ ys) i ≡ slice_get xs i
@@ -204,3 +198,44 @@ module _ {R Q : Type 0} (s : Summing R Q) (table : List (Node Q)) (at position :
       let count = readings_counted s c table b left x i (small_below c e m x y k) o in
       let part = subst (λ l. FoundIn c y (position - l) q) count (w c y j (small_after c e m x y k)) in
       subst (FoundIn c (fork e m x y) position) (sym f) (found_after c e m position x y q k (omega arith) part)) t h
+
+-- ---- the same, where the walk carries its count along
+
+further : (before : ℕ) (q : Option Found) → found_from ((before + 1) % 2 ^ 32) q ≡ found_from before (farther_if q)
+further before None = refl
+further before (Some f) =
+    let same : ((before + 1) % 2 ^ 32 + f.path) % 2 ^ 32 ≡ (before + (f.path + 1) % 2 ^ 32) % 2 ^ 32 = omega arith in
+    ap (λ n. Some (record { block = f.block; place = f.place; path = n })) same
+
+stays_near : (q : Option Found) → Near (farther_if q)
+stays_near None = tt
+stays_near (Some f) = omega arith
+
+all_of : (q : Option Found) → Near q → found_from 0 q ≡ q
+all_of None h = refl
+all_of (Some f) h = let same : (0 + f.path) % 2 ^ 32 ≡ f.path = omega arith in ap (λ n. Some (record { block = f.block; place = f.place; path = n })) same
+
+module _ {R Q : Type 0} (s : Summing R Q) (table : List (Node Q)) where
+  pub from_lost : (at position before : ℕ) → Finds s table at position None → FindsFrom s table at position before None
+  from_lost at position before f = record { found = None; right = f; near = tt; is = refl }
+
+  pub from_here : (at position before block place path : ℕ) → path ≡ (before + 1) % 2 ^ 32 → Finds s table at position (Some (record { block = block; place = place; path = 1 }))
+      → FindsFrom s table at position before (Some (record { block = block; place = place; path = path }))
+  from_here at position before block place path e f = record {
+    found = Some (record { block = block; place = place; path = 1 });
+    right = f;
+    near = omega arith;
+    is = ap (λ n. Some (record { block = block; place = place; path = n })) e;
+  }
+
+  pub from_next : (at position before n p count : ℕ) (r : Option Found) → count ≡ (before + 1) % 2 ^ 32 → FindsFrom s table n p count r → ((q : Option Found) → Finds s table n p q → Finds s table at position (farther_if q))
+      → FindsFrom s table at position before r
+  from_next at position before n p count r e f step = record {
+    found = farther_if f.found;
+    right = step f.found f.right;
+    near = stays_near f.found;
+    is = f.is ∙ ap (λ k. found_from k f.found) e ∙ further before f.found;
+  }
+
+  pub found_whole : (at position : ℕ) (r : Option Found) → FindsFrom s table at position 0 r → Finds s table at position r
+  found_whole at position r f = subst (Finds s table at position) (sym (f.is ∙ all_of f.found f.near)) f.right

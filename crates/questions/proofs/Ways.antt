@@ -1,6 +1,5 @@
 -- One step of a walk that counts the nodes of a path. Assumes nothing.
-use Rattle.std.proofs.Common.{◌≡◌, ℕ, zero, suc, ◌+◌, ◌-◌, ◌%◌, ◌^◌, ◌<◌, ◌≤◌, min, List, length, Some, None, Option, refl, ap, ◌∙◌, arith}
-use Rattle.std.specs.Prelude.{IsSomeAnd, MatchOption}
+use Rattle.std.proofs.Common.{◌≡◌, ℕ, zero, suc, ◌+◌, ◌-◌, ◌%◌, ◌^◌, ◌<◌, ◌≤◌, min, List, length, Some, None, Option, refl, ap, sym, subst, ◌∙◌, arith}
 use Rattle.std.specs.List.{slice_get}
 use Rattle.flexlist.specs.Shape.{Tree}
 use Rattle.flexlist.specs.Shape as flat
@@ -15,7 +14,7 @@ use Rattle.nodes.specs.Views.{seen, blocks_in}
 use Rattle.nodes.specs.Walking.{CountedTo}
 use Rattle.nodes.proofs.Held.{leaves_some, counted_leaf, counted_below, counted_after}
 use Rattle.questions.specs.Readings.{Stands}
-use Rattle.questions.specs.Paths.{PathCounted}
+use Rattle.questions.specs.Paths.{PathCounted, on_from, Few, From}
 use Rattle.questions.proofs.Held.{at_nothing, at_last, at_leaf, at_fork}
 use Rattle.questions.proofs.Counts.{nodes_few, blocks_counted}
 
@@ -23,11 +22,6 @@ use Rattle.questions.proofs.Counts.{nodes_few, blocks_counted}
 abbrev pub one_more_if : Option ℕ → Option ℕ
 one_more_if None = None
 one_more_if (Some n) = Some ((n + 1) % 2 ^ 32)
-
-pub more_is : (q r : Option ℕ) → MatchOption q (r ≡ None) (λ n. IsSomeAnd r (λ m. m ≡ (n + 1) % 2 ^ 32)) → r ≡ one_more_if q
-more_is None r h = h
-more_is (Some n) None h = absurd h
-more_is (Some n) (Some m) h = ap Some h
 
 pub one_more_is : (q r : Option ℕ) (n m : ℕ) → r ≡ one_more_if q → q ≡ Some n → m ≡ suc n → m < 2 ^ 32 → r ≡ Some m
 one_more_is q r n m e f g h =
@@ -106,3 +100,35 @@ module _ {R Q : Type 0} (s : Summing R Q) (table : List (Node Q)) (at upto : ℕ
       let past = nodes_after m (plain x) (plain y) place (place - leaves (plain x)) over in
       one_more_is q r _ _ f (w c y (place - leaves (plain x)) j (counted_after c k) (omega arith, omega arith)) past
       (omega (arith, past, nodes_few (to_place (plain y) (place - leaves (plain x))), leaves_some (plain x)))) t h
+
+-- ---- the same, where the walk carries its count along
+
+counted_on : (before : ℕ) (q : Option ℕ) → on_from ((before + 1) % 2 ^ 32) q ≡ on_from before (one_more_if q)
+counted_on before None = refl
+counted_on before (Some n) = let same : ((before + 1) % 2 ^ 32 + n) % 2 ^ 32 ≡ (before + (n + 1) % 2 ^ 32) % 2 ^ 32 = omega arith in ap Some same
+
+stays_few : (q : Option ℕ) → Few (one_more_if q)
+stays_few None = tt
+stays_few (Some n) = omega arith
+
+all_of : (q : Option ℕ) → Few q → on_from 0 q ≡ q
+all_of None h = refl
+all_of (Some n) h = let same : (0 + n) % 2 ^ 32 ≡ n = omega arith in ap Some same
+
+module _ (P : Option ℕ → Type 0) where
+  pub from_none : (before : ℕ) → P None → From P before None
+  from_none before p = record { count = None; right = p; few = tt; is = refl }
+
+  pub from_one : (before count : ℕ) → count ≡ (before + 1) % 2 ^ 32 → P (Some 1) → From P before (Some count)
+  from_one before count e p = record { count = Some 1; right = p; few = omega arith; is = ap Some e }
+
+  pub from_next : (below : Option ℕ → Type 0) (before count : ℕ) (r : Option ℕ) → count ≡ (before + 1) % 2 ^ 32 → From below count r → ((q : Option ℕ) → below q → P (one_more_if q)) → From P before r
+  from_next below before count r e f step = record {
+    count = one_more_if f.count;
+    right = step f.count f.right;
+    few = stays_few f.count;
+    is = f.is ∙ ap (λ k. on_from k f.count) e ∙ counted_on before f.count;
+  }
+
+  pub from_whole : (r : Option ℕ) → From P 0 r → P r
+  from_whole r f = subst P (sym (f.is ∙ all_of f.count f.few)) f.right

@@ -28,12 +28,24 @@ abbrev pub FoundIn : {R : Type 0} → (ℕ → Content R) → Laid → ℕ → O
 FoundIn c t position None = length (readings_of c t) ≤ position
 FoundIn c t position (Some f) = FoundAt c t position f (row_with (rows_of c t) position)
 
--- one node further from the root
-abbrev pub farther : Found → Found
-farther f = record { block = f.block; place = f.place; path = (f.path + 1) % 2 ^ 32 }
-
 abbrev pub Finds : {R Q : Type 0} → Summing R Q → List (Node Q) → ℕ → ℕ → Option Found → Type 0
 Finds {R} s table at position r = (c : ℕ → Content R) (t : Laid) → Stands s c table at t → Small c t → FoundIn c t position r
+
+-- what is found, with so many nodes before it on the path
+abbrev pub found_from : ℕ → Option Found → Option Found
+found_from before None = None
+found_from before (Some f) = Some (record { block = f.block; place = f.place; path = (before + f.path) % 2 ^ 32 })
+
+abbrev pub Near : Option Found → Type 0
+Near None = Unit {0}
+Near (Some f) = f.path < 2 ^ 32
+
+-- A walk that carries its count of nodes along finds what is right, with those before it.
+pub record FindsFrom {R Q : Type 0} (s : Summing R Q) (table : List (Node Q)) (at position before : ℕ) (r : Option Found) : Type 0 where
+  pub found : Option Found
+  pub right : Finds s table at position found
+  pub near : Near found
+  pub is : r ≡ found_from before found
 
 -- the reading at a position and the length of the path to its block, or none past the end
 abbrev pub Answers : {R : Type 0} → (ℕ → Content R) → Laid → ℕ → Option (Answer R) → Type 0

@@ -1,31 +1,33 @@
 // The nodes on the paths to a block and to the one before it.
+// Each walk carries its count along, so that its call of itself is the last thing that it does.
 ghost use Rattle.std.specs.Prelude.{◌≡◌, ◌+◌, ◌%◌, ◌^◌};
-ghost use Rattle.questions.specs.Paths.{PathCounted, PathsCounted};
+ghost use Rattle.questions.specs.Paths.{PathCounted, PathsCounted, From};
 
 use nodes::{Node, Shape, blocks_in, view_at};
 use summary::Summary;
 
 // One node more on a path.
-fn one_more(count: u32) -> u32
+pub(crate) fn one_more(count: u32) -> u32
     ensures { result ≡ (count + 1) % 2 ^ 32 }
 {
     count.wrapping_add(1)
 }
 
-// The nodes of two paths that part at a fork, and the fork.
-fn two_and_fork(first: u32, second: u32) -> u32
-    ensures { result ≡ (first + second + 1) % 2 ^ 32 }
+// The fork at which two paths part is one node more for both.
+fn with_fork(count: u32) -> u32
+    ensures { result ≡ (count + 1) % 2 ^ 32 }
 {
-    first.wrapping_add(second).wrapping_add(1)
+    one_more(count)
 }
 
-// Goes to the block that `upto` blocks lead to, and counts the nodes on the way.
-pub(crate) fn path_walk<Q: Summary + Copy>(nodes: &[Node<Q>], at: u32, upto: u32) -> Option<u32>
-    ensures { PathCounted Q.Summary.means nodes.now at upto result }
+// Goes on to the block that `upto` blocks lead to, where so many nodes were counted before.
+fn path_from<Q: Summary + Copy>(nodes: &[Node<Q>], at: u32, upto: u32, before: u32) -> Option<u32>
+    ensures { From (PathCounted Q.Summary.means nodes.now at upto) before result }
 {
     let shape = view_at(nodes, at)?;
+    let count = one_more(before);
     match shape {
-        Shape::Leaf { after: None, .. } => Some(1),
+        Shape::Leaf { after: None, .. } => Some(count),
         Shape::Leaf {
             length,
             after: Some(after),
@@ -33,25 +35,26 @@ pub(crate) fn path_walk<Q: Summary + Copy>(nodes: &[Node<Q>], at: u32, upto: u32
         } => {
             let own = length.min(1);
             if upto <= own {
-                return Some(1);
+                return Some(count);
             }
-            path_walk(nodes, after, upto - own).map(one_more)
+            path_from(nodes, after, upto - own, count)
         }
         Shape::Fork { below, after, .. } => {
             let left = blocks_in(nodes, below);
             if upto <= left {
-                return path_walk(nodes, below, upto).map(one_more);
+                return path_from(nodes, below, upto, count);
             }
-            path_walk(nodes, after, upto - left).map(one_more)
+            path_from(nodes, after, upto - left, count)
         }
     }
 }
 
-// Goes to the block that `upto` blocks lead to and to the one before it, and counts the nodes on the way once.
-pub(crate) fn paths_walk<Q: Summary + Copy>(nodes: &[Node<Q>], at: u32, upto: u32) -> Option<u32>
-    ensures { PathsCounted Q.Summary.means nodes.now at upto result }
+// Goes on to that block and to the one before it.
+fn paths_from<Q: Summary + Copy>(nodes: &[Node<Q>], at: u32, upto: u32, before: u32) -> Option<u32>
+    ensures { From (PathsCounted Q.Summary.means nodes.now at upto) before result }
 {
     let shape = view_at(nodes, at)?;
+    let count = one_more(before);
     match shape {
         Shape::Leaf { after: None, .. } => None,
         Shape::Leaf {
@@ -61,21 +64,34 @@ pub(crate) fn paths_walk<Q: Summary + Copy>(nodes: &[Node<Q>], at: u32, upto: u3
         } => {
             let own = length.min(1);
             if upto <= own + 1 {
-                return path_walk(nodes, after, 1).map(one_more);
+                return path_from(nodes, after, 1, count);
             }
-            paths_walk(nodes, after, upto - own).map(one_more)
+            paths_from(nodes, after, upto - own, count)
         }
         Shape::Fork { below, after, .. } => {
             let left = blocks_in(nodes, below);
             if upto <= left {
-                return paths_walk(nodes, below, upto).map(one_more);
+                return paths_from(nodes, below, upto, count);
             }
             if upto - left == 1 {
-                let first = path_walk(nodes, below, left)?;
-                let second = path_walk(nodes, after, 1)?;
-                return Some(two_and_fork(first, second));
+                let first = path_from(nodes, below, left, with_fork(before))?;
+                return path_from(nodes, after, 1, first);
             }
-            paths_walk(nodes, after, upto - left).map(one_more)
+            paths_from(nodes, after, upto - left, count)
         }
     }
+}
+
+// Goes to the block that `upto` blocks lead to, and counts the nodes on the way.
+pub(crate) fn path_walk<Q: Summary + Copy>(nodes: &[Node<Q>], at: u32, upto: u32) -> Option<u32>
+    ensures { PathCounted Q.Summary.means nodes.now at upto result }
+{
+    path_from(nodes, at, upto, 0)
+}
+
+// Goes to the block that `upto` blocks lead to and to the one before it, and counts the nodes on the way once.
+pub(crate) fn paths_walk<Q: Summary + Copy>(nodes: &[Node<Q>], at: u32, upto: u32) -> Option<u32>
+    ensures { PathsCounted Q.Summary.means nodes.now at upto result }
+{
+    paths_from(nodes, at, upto, 0)
 }

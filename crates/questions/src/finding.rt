@@ -1,18 +1,44 @@
-// The block that has a reading, found by the counts of readings on the way.
-ghost use Rattle.std.specs.Prelude.{◌≡◌};
-ghost use Rattle.questions.specs.Finding.{farther, Finds};
+// The block that has a reading, found by the counts of readings on the way. The walk carries its count of nodes along.
+ghost use Rattle.questions.specs.Finding.{Finds, FindsFrom};
 
+use crate::counting::one_more;
 use crate::found::Found;
 use nodes::{Node, Shape, readings_in, view_at};
 use summary::Summary;
 
-// One node further from the root.
-fn farther(found: Found) -> Found
-    ensures { result ≡ farther found }
+// Goes on to the block that has the reading at a position, where so many nodes were counted before.
+fn find_from<Q: Summary + Copy>(
+    nodes: &[Node<Q>],
+    at: u32,
+    position: u32,
+    before: u32,
+) -> Option<Found>
+    ensures { FindsFrom Q.Summary.means nodes.now at position before result }
 {
-    Found {
-        path: found.path.wrapping_add(1),
-        ..found
+    let shape = view_at(nodes, at)?;
+    let path = one_more(before);
+    match shape {
+        Shape::Leaf {
+            block,
+            length,
+            after,
+        } => {
+            if position < length {
+                return Some(Found {
+                    block,
+                    place: position,
+                    path,
+                });
+            }
+            find_from(nodes, after?, position - length, path)
+        }
+        Shape::Fork { below, after, .. } => {
+            let left = readings_in(nodes, below);
+            if position < left {
+                return find_from(nodes, below, position, path);
+            }
+            find_from(nodes, after, position - left, path)
+        }
     }
 }
 
@@ -24,27 +50,5 @@ pub(crate) fn find_walk<Q: Summary + Copy>(
 ) -> Option<Found>
     ensures { Finds Q.Summary.means nodes.now at position result }
 {
-    match view_at(nodes, at)? {
-        Shape::Leaf {
-            block,
-            length,
-            after,
-        } => {
-            if position < length {
-                return Some(Found {
-                    block,
-                    place: position,
-                    path: 1,
-                });
-            }
-            find_walk(nodes, after?, position - length).map(farther)
-        }
-        Shape::Fork { below, after, .. } => {
-            let left = readings_in(nodes, below);
-            if position < left {
-                return find_walk(nodes, below, position).map(farther);
-            }
-            find_walk(nodes, after, position - left).map(farther)
-        }
-    }
+    find_from(nodes, at, position, 0)
 }
