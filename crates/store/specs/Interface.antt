@@ -1,5 +1,5 @@
 -- What a block store means, a list of rows numbered from 0 and what refuses a row now, and what its calls answer and leave. Assumes nothing.
-use Rattle.std.specs.Prelude.{◌≡◌, ℕ, ◌≤◌, List, [], ◌∷◌, ◌++◌, length, Some, None, Ok, Err, Option, Result}
+use Rattle.std.specs.Prelude.{◌≡◌, ℕ, ◌+◌, ◌≤◌, List, [], ◌∷◌, ◌++◌, length, take, drop, cond, nat_le, Some, None, Ok, Err, Option, Result}
 use Rattle.std.specs.List.{slice_get}
 use Rattle.store.specs.declared.cause.Cause.{Cause}
 
@@ -35,6 +35,11 @@ size (Some row) = Some (length row)
 abbrev pub reading_at : {R : Type 0} → Option (List R) → ℕ → Option R
 reading_at None place = None
 reading_at (Some row) place = slice_get row place
+
+-- a slice over which the readings of a block that is there stand from a place on; where the block has not so many, the slice as it was
+abbrev pub copied : {R : Type 0} → Option (List R) → ℕ → List R → List R
+copied None from before = before
+copied (Some row) from before = cond (nat_le (from + length before) (length row)) (take (length before) (drop from row)) before
 
 -- every block has 1 to 1,024 readings
 abbrev pub Bounded : Option ℕ → Type 0

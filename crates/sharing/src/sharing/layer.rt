@@ -77,4 +77,8 @@ impl<S: BlockStore> BlockStore for Sharing<S> {
     fn reading(&self, block: u32, place: u32) -> Option<S::Reading> {
         self.below.reading(block, place)
     }
+
+    fn copy(&self, block: u32, from: u32, out: &mut [S::Reading]) {
+        self.below.copy(block, from, out);
+    }
 }
