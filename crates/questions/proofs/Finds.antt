@@ -15,10 +15,10 @@ use Rattle.nodes.specs.Views.{seen, readings_in}
 use Rattle.nodes.proofs.Held.{leaves_some}
 use Rattle.questions.specs.declared.found.Found.{Found}
 use Rattle.questions.specs.Readings.{in_order, row_with, rows_of, readings_of, Small}
-use Rattle.questions.specs.Finding.{block_at, FoundAt, FoundIn, Finds, found_from, Near, FindsFrom}
+use Rattle.questions.specs.Finding.{block_at, FoundAt, FoundIn, Finds}
 use Rattle.questions.proofs.Held.{at_nothing, at_last, at_leaf, at_fork}
 use Rattle.questions.proofs.Counts.{nodes_few}
-use Rattle.questions.proofs.Ways.{nodes_below, nodes_after}
+use Rattle.questions.proofs.Ways.{one_more_if, nodes_below, nodes_after, Came, came_nowhere, came_further, came_one, came_none}
 use Rattle.questions.proofs.Readings.{readings_last, readings_leaf, readings_fork, rows_fork, count_last, count_leaf, count_fork, small_next, small_below, small_after, readings_counted}
 
 -- ---- positions in one list after another
@@ -199,43 +199,33 @@ module _ {R Q : Type 0} (s : Summing R Q) (table : List (Node Q)) (at position :
       let part = subst (λ l. FoundIn c y (position - l) q) count (w c y j (small_after c e m x y k)) in
       subst (FoundIn c (fork e m x y) position) (sym f) (found_after c e m position x y q k (omega arith) part)) t h
 
--- ---- the same, where the walk carries its count along
+-- ---- a walk on its way: what is found from here on, in any block and place
 
-further : (before : ℕ) (q : Option Found) → found_from ((before + 1) % 2 ^ 32) q ≡ found_from before (farther_if q)
-further before None = refl
-further before (Some f) =
-    let same : ((before + 1) % 2 ^ 32 + f.path) % 2 ^ 32 ≡ (before + (f.path + 1) % 2 ^ 32) % 2 ^ 32 = omega arith in
-    ap (λ n. Some (record { block = f.block; place = f.place; path = n })) same
+-- a place in a block's row, found by so many nodes
+abbrev spot : ℕ → ℕ → Option ℕ → Option Found
+spot block place None = None
+spot block place (Some n) = Some (record { block = block; place = place; path = n })
 
-stays_near : (q : Option Found) → Near (farther_if q)
-stays_near None = tt
-stays_near (Some f) = omega arith
-
-all_of : (q : Option Found) → Near q → found_from 0 q ≡ q
-all_of None h = refl
-all_of (Some f) h = let same : (0 + f.path) % 2 ^ 32 ≡ f.path = omega arith in ap (λ n. Some (record { block = f.block; place = f.place; path = n })) same
+farther_spot : (block place : ℕ) (q : Option ℕ) → spot block place (one_more_if q) ≡ farther_if (spot block place q)
+farther_spot block place None = refl
+farther_spot block place (Some n) = refl
 
 module _ {R Q : Type 0} (s : Summing R Q) (table : List (Node Q)) where
-  pub from_lost : (at position before : ℕ) → Finds s table at position None → FindsFrom s table at position before None
-  from_lost at position before f = record { found = None; right = f; near = tt; is = refl }
+  -- From an entry, looking for a position, the walk came to another, where it looks for a further position, by so many nodes.
+  pub record CameTo (start position here rest count : ℕ) : Type 0 where
+    pub so : (block place : ℕ) → Came (λ q. Finds s table start position (spot block place q)) (λ q. Finds s table here rest (spot block place q)) count
 
-  pub from_here : (at position before block place path : ℕ) → path ≡ (before + 1) % 2 ^ 32 → Finds s table at position (Some (record { block = block; place = place; path = 1 }))
-      → FindsFrom s table at position before (Some (record { block = block; place = place; path = path }))
-  from_here at position before block place path e f = record {
-    found = Some (record { block = block; place = place; path = 1 });
-    right = f;
-    near = omega arith;
-    is = ap (λ n. Some (record { block = block; place = place; path = n })) e;
-  }
+  pub set_out : (start position : ℕ) → CameTo start position start position 0
+  set_out start position = record { so = λ block place. came_nowhere _ }
 
-  pub from_next : (at position before n p count : ℕ) (r : Option Found) → count ≡ (before + 1) % 2 ^ 32 → FindsFrom s table n p count r → ((q : Option Found) → Finds s table n p q → Finds s table at position (farther_if q))
-      → FindsFrom s table at position before r
-  from_next at position before n p count r e f step = record {
-    found = farther_if f.found;
-    right = step f.found f.right;
-    near = stays_near f.found;
-    is = f.is ∙ ap (λ k. found_from k f.found) e ∙ further before f.found;
-  }
+  module _ (start position here rest count : ℕ) where
+    pub came_on : (here' rest' count' : ℕ) → CameTo start position here rest count → count' ≡ (count + 1) % 2 ^ 32 →
+        ((q r : Option Found) → Finds s table here' rest' q → r ≡ farther_if q → Finds s table here rest r) → CameTo start position here' rest' count'
+    came_on here' rest' count' came e step = record { so = λ block place. came_further _ _ _ _ _ (came.so block place) e (λ q f. step (spot block place q) _ f (farther_spot block place q)) }
 
-  pub found_whole : (at position : ℕ) (r : Option Found) → FindsFrom s table at position 0 r → Finds s table at position r
-  found_whole at position r f = subst (Finds s table at position) (sym (f.is ∙ all_of f.found f.near)) f.right
+    pub came_to_it : (block place path : ℕ) → CameTo start position here rest count → path ≡ (count + 1) % 2 ^ 32 →
+        Finds s table here rest (Some (record { block = block; place = place; path = 1 })) → Finds s table start position (Some (record { block = block; place = place; path = path }))
+    came_to_it block place path came e f = came_one _ _ _ _ (came.so block place) e f
+
+    pub came_to_nothing : CameTo start position here rest count → Finds s table here rest None → Finds s table start position None
+    came_to_nothing came f = came_none _ _ _ (came.so 0 0) f

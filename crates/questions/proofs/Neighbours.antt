@@ -1,5 +1,5 @@
 -- One step of a walk that counts the nodes of two neighbours' paths. Assumes nothing.
-use Rattle.std.proofs.Common.{◌≡◌, ℕ, zero, suc, ◌+◌, ◌-◌, ◌%◌, ◌^◌, ◌<◌, ◌≤◌, min, List, length, Some, None, Option, refl, ap, ◌∙◌, ap₂, arith}
+use Rattle.std.proofs.Common.{◌≡◌, ℕ, zero, suc, ◌+◌, ◌-◌, ◌%◌, ◌^◌, ◌<◌, ◌≤◌, min, List, length, Some, None, Option, refl, sym, subst, ap, ◌∙◌, ap₂, arith}
 use Rattle.std.specs.List.{slice_get}
 use Rattle.flexlist.specs.Shape.{Tree}
 use Rattle.flexlist.specs.Shape as flat
@@ -14,10 +14,10 @@ use Rattle.nodes.specs.Views.{seen, blocks_in}
 use Rattle.nodes.specs.Walking.{CountedTo}
 use Rattle.nodes.proofs.Held.{leaves_some, counted_leaf, counted_below, counted_after}
 use Rattle.questions.specs.Readings.{Stands}
-use Rattle.questions.specs.Paths.{PathCounted, PathsCounted, on_from, Few, From}
+use Rattle.questions.specs.Paths.{PathCounted, PathsCounted}
 use Rattle.questions.proofs.Held.{at_nothing, at_last, at_leaf, at_fork}
 use Rattle.questions.proofs.Counts.{nodes_few, both_few, blocks_counted}
-use Rattle.questions.proofs.Ways.{one_more_if, one_more_is}
+use Rattle.questions.proofs.Ways.{one_more_if, one_more_is, Came}
 
 -- the nodes of both paths to neighbours
 both : Tree → ℕ → ℕ
@@ -138,34 +138,17 @@ module _ {R Q : Type 0} (s : Summing R Q) (table : List (Node Q)) (at upto : ℕ
       one_more_is q r _ _ f (w c y (place - leaves (plain x)) j (counted_after c k) (omega arith) (omega arith, omega arith)) past
       (omega (arith, past, both_few (to_place (plain y) (place - leaves (plain x))) (to_place (plain y) (suc (place - leaves (plain x)))), leaves_some (plain x)))) t h
 
--- ---- both parts of a fork, where the walk carries its count along
+-- ---- a walk on its way that ends where the two paths part
 
-counted_both : (before : ℕ) (q p : Option ℕ) (first : ℕ) (r : Option ℕ) → Some first ≡ on_from ((before + 1) % 2 ^ 32) q → r ≡ on_from first p → r ≡ on_from before (two_and_fork_if q p)
-counted_both before None p first r f g = let z : ◌≡◌ {A = ℕ} 0 1 = cc in absurd (omega arith)
-counted_both before (Some m) None first r f g = g
-counted_both before (Some m) (Some n) first r f g =
-    let all : first ≡ ((before + 1) % 2 ^ 32 + m) % 2 ^ 32 = cc in
-    let same : (first + n) % 2 ^ 32 ≡ (before + (m + n + 1) % 2 ^ 32) % 2 ^ 32 = omega arith in
-    g ∙ ap Some same
+module _ (Start Here : Option ℕ → Type 0) (count : ℕ) where
+  -- at a leaf that one of them ends at: the other goes on
+  pub came_to_leaf : (path next total : ℕ) → Came Start Here count → path ≡ (count + 1) % 2 ^ 32 → total ≡ (path + next) % 2 ^ 32 → Here (one_more_if (Some next)) → Start (Some total)
+  came_to_leaf path next total came e f p =
+      let same : total ≡ (count + (next + 1) % 2 ^ 32) % 2 ^ 32 = omega arith in
+      subst (λ n. Start (Some n)) (sym same) (came.so (one_more_if (Some next)) (omega arith) p)
 
-both_stay_few : (q p : Option ℕ) → Few (two_and_fork_if q p)
-both_stay_few None p = tt
-both_stay_few (Some m) None = tt
-both_stay_few (Some m) (Some n) = omega arith
-
-module _ (P below : Option ℕ → Type 0) where
-  pub from_both : (beside : Option ℕ → Type 0) (before count first : ℕ) (r : Option ℕ) → count ≡ (before + 1) % 2 ^ 32 → From below count (Some first) → From beside first r → ((q p : Option ℕ) → below q → beside p → P (two_and_fork_if q p)) → From P before r
-  from_both beside before count first r e f g step = record {
-    count = two_and_fork_if f.count g.count;
-    right = step f.count g.count f.right g.right;
-    few = both_stay_few f.count g.count;
-    is = counted_both before f.count g.count first r (f.is ∙ ap (λ k. on_from k f.count) e) g.is;
-  }
-
-  -- where the first of them is lost, so are both
-  pub from_lost : (before count : ℕ) → From below count None → (below None → P None) → From P before None
-  from_lost before count f step = record { count = None; right = step (none_of f.count f.is f.right); few = tt; is = refl }
-    where
-      none_of : (q : Option ℕ) → None ≡ on_from count q → below q → below None
-      none_of None h b = b
-      none_of (Some n) h b = let z : ◌≡◌ {A = ℕ} 0 1 = cc in absurd (omega arith)
+  -- at a fork
+  pub came_to_fork : (path first second total : ℕ) → Came Start Here count → path ≡ (count + 1) % 2 ^ 32 → total ≡ (path + first + second) % 2 ^ 32 → Here (two_and_fork_if (Some first) (Some second)) → Start (Some total)
+  came_to_fork path first second total came e f p =
+      let same : total ≡ (count + (first + second + 1) % 2 ^ 32) % 2 ^ 32 = omega arith in
+      subst (λ n. Start (Some n)) (sym same) (came.so (two_and_fork_if (Some first) (Some second)) (omega arith) p)

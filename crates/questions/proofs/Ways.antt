@@ -14,7 +14,7 @@ use Rattle.nodes.specs.Views.{seen, blocks_in}
 use Rattle.nodes.specs.Walking.{CountedTo}
 use Rattle.nodes.proofs.Held.{leaves_some, counted_leaf, counted_below, counted_after}
 use Rattle.questions.specs.Readings.{Stands}
-use Rattle.questions.specs.Paths.{PathCounted, on_from, Few, From}
+use Rattle.questions.specs.Paths.{PathCounted}
 use Rattle.questions.proofs.Held.{at_nothing, at_last, at_leaf, at_fork}
 use Rattle.questions.proofs.Counts.{nodes_few, blocks_counted}
 
@@ -101,7 +101,20 @@ module _ {R Q : Type 0} (s : Summing R Q) (table : List (Node Q)) (at upto : ℕ
       one_more_is q r _ _ f (w c y (place - leaves (plain x)) j (counted_after c k) (omega arith, omega arith)) past
       (omega (arith, past, nodes_few (to_place (plain y) (place - leaves (plain x))), leaves_some (plain x)))) t h
 
--- ---- the same, where the walk carries its count along
+-- ---- a walk on its way
+
+-- a count with those before it
+abbrev pub on_from : ℕ → Option ℕ → Option ℕ
+on_from before None = None
+on_from before (Some n) = Some ((before + n) % 2 ^ 32)
+
+abbrev pub Few : Option ℕ → Type 0
+Few None = Unit {0}
+Few (Some n) = n < 2 ^ 32
+
+-- A walk came by so many nodes from where it set out to where it is: a count that is right here is right there, with these nodes before it.
+pub record Came (Start Here : Option ℕ → Type 0) (count : ℕ) : Type 0 where
+  pub so : (q : Option ℕ) → Few q → Here q → Start (on_from count q)
 
 counted_on : (before : ℕ) (q : Option ℕ) → on_from ((before + 1) % 2 ^ 32) q ≡ on_from before (one_more_if q)
 counted_on before None = refl
@@ -115,20 +128,15 @@ all_of : (q : Option ℕ) → Few q → on_from 0 q ≡ q
 all_of None h = refl
 all_of (Some n) h = let same : (0 + n) % 2 ^ 32 ≡ n = omega arith in ap Some same
 
-module _ (P : Option ℕ → Type 0) where
-  pub from_none : (before : ℕ) → P None → From P before None
-  from_none before p = record { count = None; right = p; few = tt; is = refl }
+pub came_nowhere : (P : Option ℕ → Type 0) → Came P P 0
+came_nowhere P = record { so = λ q few p. subst P (sym (all_of q few)) p }
 
-  pub from_one : (before count : ℕ) → count ≡ (before + 1) % 2 ^ 32 → P (Some 1) → From P before (Some count)
-  from_one before count e p = record { count = Some 1; right = p; few = omega arith; is = ap Some e }
+module _ (Start Here : Option ℕ → Type 0) (count : ℕ) where
+  pub came_further : (Next : Option ℕ → Type 0) (count' : ℕ) → Came Start Here count → count' ≡ (count + 1) % 2 ^ 32 → ((q : Option ℕ) → Next q → Here (one_more_if q)) → Came Start Next count'
+  came_further Next count' came e step = record { so = λ q few p. subst Start (sym (ap (λ k. on_from k q) e ∙ counted_on count q)) (came.so (one_more_if q) (stays_few q) (step q p)) }
 
-  pub from_next : (below : Option ℕ → Type 0) (before count : ℕ) (r : Option ℕ) → count ≡ (before + 1) % 2 ^ 32 → From below count r → ((q : Option ℕ) → below q → P (one_more_if q)) → From P before r
-  from_next below before count r e f step = record {
-    count = one_more_if f.count;
-    right = step f.count f.right;
-    few = stays_few f.count;
-    is = f.is ∙ ap (λ k. on_from k f.count) e ∙ counted_on before f.count;
-  }
+  pub came_one : (path : ℕ) → Came Start Here count → path ≡ (count + 1) % 2 ^ 32 → Here (Some 1) → Start (Some path)
+  came_one path came e p = subst Start (sym (ap Some e)) (came.so (Some 1) (omega arith) p)
 
-  pub from_whole : (r : Option ℕ) → From P 0 r → P r
-  from_whole r f = subst P (sym (f.is ∙ all_of f.count f.few)) f.right
+  pub came_none : Came Start Here count → Here None → Start None
+  came_none came p = came.so None tt p

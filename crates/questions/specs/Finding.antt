@@ -1,5 +1,5 @@
 -- The block that has a reading, and that reading. Assumes nothing.
-use Rattle.std.specs.Prelude.{◌≡◌, ℕ, ◌+◌, ◌%◌, ◌^◌, ◌<◌, ◌≤◌, List, length, Some, None, Option, slice_index}
+use Rattle.std.specs.Prelude.{◌≡◌, ℕ, ◌<◌, ◌≤◌, List, length, Some, None, Option, slice_index}
 use Rattle.std.specs.List.{slice_get}
 use Rattle.flexlist.specs.Nodes.{identities, leaves, nodes, to_place}
 use Rattle.summary.specs.Summing.{Summing}
@@ -30,22 +30,6 @@ FoundIn c t position (Some f) = FoundAt c t position f (row_with (rows_of c t) p
 
 abbrev pub Finds : {R Q : Type 0} → Summing R Q → List (Node Q) → ℕ → ℕ → Option Found → Type 0
 Finds {R} s table at position r = (c : ℕ → Content R) (t : Laid) → Stands s c table at t → Small c t → FoundIn c t position r
-
--- what is found, with so many nodes before it on the path
-abbrev pub found_from : ℕ → Option Found → Option Found
-found_from before None = None
-found_from before (Some f) = Some (record { block = f.block; place = f.place; path = (before + f.path) % 2 ^ 32 })
-
-abbrev pub Near : Option Found → Type 0
-Near None = Unit {0}
-Near (Some f) = f.path < 2 ^ 32
-
--- A walk that carries its count of nodes along finds what is right, with those before it.
-pub record FindsFrom {R Q : Type 0} (s : Summing R Q) (table : List (Node Q)) (at position before : ℕ) (r : Option Found) : Type 0 where
-  pub found : Option Found
-  pub right : Finds s table at position found
-  pub near : Near found
-  pub is : r ≡ found_from before found
 
 -- the reading at a position and the length of the path to its block, or none past the end
 abbrev pub Answers : {R : Type 0} → (ℕ → Content R) → Laid → ℕ → Option (Answer R) → Type 0

@@ -1,5 +1,5 @@
 -- What counting the nodes of paths answers. Assumes nothing.
-use Rattle.std.specs.Prelude.{◌≡◌, ℕ, suc, ◌+◌, ◌%◌, ◌^◌, ◌<◌, List, Some, None, Option}
+use Rattle.std.specs.Prelude.{◌≡◌, ℕ, suc, ◌+◌, ◌^◌, ◌<◌, List, Some, Option}
 use Rattle.flexlist.specs.Nodes.{nodes, nodes_of_both, leaves, to_place}
 use Rattle.summary.specs.Summing.{Summing}
 use Rattle.nodes.specs.declared.node.Node.{Node}
@@ -19,19 +19,3 @@ abbrev pub PathsCounted : {R Q : Type 0} → Summing R Q → List (Node Q) → �
 PathsCounted {R} s table at upto r =
     (c : ℕ → Content R) (t : Laid) (place : ℕ) → Stands s c table at t → Counted c t → leaves (plain t) + 1 < 2 ^ 32 → CountedTo c t (suc place) upto →
     r ≡ Some (nodes_of_both (to_place (plain t) place) (to_place (plain t) (suc place)))
-
--- a count with those before it
-abbrev pub on_from : ℕ → Option ℕ → Option ℕ
-on_from before None = None
-on_from before (Some n) = Some ((before + n) % 2 ^ 32)
-
-abbrev pub Few : Option ℕ → Type 0
-Few None = Unit {0}
-Few (Some n) = n < 2 ^ 32
-
--- A walk that carries its count along answers a count that is right, P, with those before it.
-pub record From (P : Option ℕ → Type 0) (before : ℕ) (r : Option ℕ) : Type 0 where
-  pub count : Option ℕ
-  pub right : P count
-  pub few : Few count
-  pub is : r ≡ on_from before count
