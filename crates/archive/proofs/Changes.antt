@@ -12,10 +12,12 @@ use Rattle.history.specs.Replay.{path, written_by, next_list}
 use Rattle.history.proofs.Sound.{version_sound}
 use Rattle.history.proofs.Bounds.{edits_bounded}
 use Rattle.nodes.specs.declared.node.Node.{Node}
+use Rattle.nodes.specs.declared.node.Block.{Block}
 use Rattle.nodes.specs.Holding.{Grown}
+use Rattle.nodes.specs.Making.{LeafOf}
 use Rattle.nodes.specs.Views.{blocks_in, readings_in as readings_at}
 use Rattle.nodes.specs.Changing.{change_at, Changed}
-use Rattle.nodes.specs.Walking.{LaidOut, BlockOf}
+use Rattle.nodes.specs.Walking.{LaidOut}
 use Rattle.nodes.proofs.Parts.{change_keeps}
 use Rattle.nodes.proofs.Plans.{change_plain}
 use Rattle.archive.specs.declared.version.Version.{Version}
@@ -29,7 +31,7 @@ use Rattle.archive.proofs.Later.{list_new}
 use Rattle.archive.proofs.Planned.{change_planned, laid_shape}
 use Rattle.archive.proofs.Tried.{passed, all_passed}
 use Rattle.archive.proofs.Looks.{found_below, BaseFound}
-use Rattle.archive.proofs.Edited.{kept_spots, brought_is, base_ready, base_place, made_is, has_room, edit_stands}
+use Rattle.archive.proofs.Edited.{kept_spots, brought_leaf, base_ready, base_place, made_is, has_room, edit_stands}
 use Rattle.archive.proofs.Inserts.{looked_ok, looked_accepted, sub_is, placed_kept, placed_new, rows_kept, rows_next}
 use Rattle.archive.proofs.Roots.{root_blocks, root_readings}
 
@@ -51,14 +53,14 @@ module _ {R : Type 0} where
       ∙ sym (length-append (take p xs) (drop p xs)) ∙ ap length (take-append-drop p xs)
 
 module _ {R Q S : Type 0} (means : Summing R Q) (keeps : Keeping S R) (s : Tables Q) (store after : S) (base place : ℕ) (row : List R) (from : Version)
-    (n : ℕ) (nodes : List (Node Q)) (at next some_blocks some_readings : ℕ) where
+    (n : ℕ) (block : Block Q) (nodes : List (Node Q)) (at next some_blocks some_readings : ℕ) where
   -- the record that is written: the root of the new tree counts its blocks and readings
   abbrev pub noted : Version
-  noted = record { parent = base; edit = Change; place = place; level = 0; block = n; root = at; blocks = some_blocks; readings = some_readings; written = next - s.used }
+  noted = record { parent = base; edit = Change; place = place; level = 0; block = block.number; root = at; blocks = some_blocks; readings = some_readings; written = next - s.used }
 
   module _ (es : List (Edit R)) (st : Stands means keeps.rows es s store) (looked : RefusedOr (change_refusal s es base place (length row)) (slice_get s.versions base) (Ok from))
-      (taken : Taken keeps.rows keeps.refuses store row n after) (grown : Grown s.nodes s.used nodes next)
-      (walked : Changed means (keeps.rows after) s.nodes s.used from.root (place + 1) n (length row) nodes at next) (size : length nodes ≡ length s.nodes)
+      (taken : Taken keeps.rows keeps.refuses store row n after) (leaf : LeafOf means (record { number = n; row = row }) block) (grown : Grown s.nodes s.used nodes next)
+      (walked : Changed means s.nodes s.used from.root (place + 1) block nodes at next) (size : length nodes ≡ length s.nodes)
       (blocks_read : some_blocks ≡ blocks_in (slice_get nodes at)) (readings_read : some_readings ≡ readings_at (slice_get nodes at)) where
     new : Content R
     new = record { number = n; row = row }
@@ -89,11 +91,9 @@ module _ {R Q S : Type 0} (means : Summing R Q) (keeps : Keeping S R) (s : Table
         let used_is = tb.used_up in
         let enough : path xs (suc place) ≤ node_limit s - s.used = subst (λ u. path xs (suc place) ≤ node_limit s - u) (sym used_is) p.enough in
         let room = has_room means s es tb e from b plan planned (path xs (suc place)) bound enough in
-        let block : BlockOf (keeps.rows after) (content_of (e ∷ es) (suc (length es))) n (length row) = subst (λ c. BlockOf (keeps.rows after) c n (length row)) (sym (brought_is means s es tb e from b))
-        (record { stored = λ _. placed_new (keeps.rows store) (keeps.rows after) row n taken.placed; number = refl; size = refl }) in
         let bp = base_place means s es tb e from b (suc place) (omega arith) in
         let to = bp.1 in
-        let out : LaidOut means (content_of (e ∷ es)) s.used plan nodes at next = walked (content_of (e ∷ es)) (suc (length es)) block b.tree (suc place)
+        let out : LaidOut means (content_of (e ∷ es)) s.used plan nodes at next = walked (content_of (e ∷ es)) (suc (length es)) (brought_leaf means s es tb e from b block leaf) b.tree (suc place)
         (base_ready means s es tb e from b) (bp.0, omega arith) room in
         let mw : made plan ≡ written_by es e = made_is means s es tb e from b plan planned in
         let up : next ≡ s.used + made plan = out.used_up in
@@ -108,7 +108,7 @@ module _ {R Q S : Type 0} (means : Summing R Q) (keeps : Keeping S R) (s : Table
         let readings : some_readings ≡ readings_in (next_list es e) = readings_read ∙ root_readings (e ∷ es) (next_list es e) (lay plan s.used) shaped known fair few means nodes at out.holds out.here in
         let grew : next ≡ s.used + written_by es e = up ∙ ap (λ k. s.used + k) mw in
         let count : next - s.used ≡ written_by es e = sub_is next s.used (written_by es e) grew in
-        let is : noted ≡ edit_record es e (next_list es e) at = λ i. record { parent = base; edit = Change; place = place; level = 0; block = n; root = at; blocks = blocks i; readings = readings i; written = count i } in
+        let is : noted ≡ edit_record es e (next_list es e) at = λ i. record { parent = base; edit = Change; place = place; level = 0; block = leaf.number i; root = at; blocks = blocks i; readings = readings i; written = count i } in
         let stored = rows_kept (keeps.rows store) (keeps.rows after) kept xs (st.stored base) in
         record {
           number = n;

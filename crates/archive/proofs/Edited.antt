@@ -13,7 +13,9 @@ use Rattle.history.specs.Edits.{Edit, Known, base_of, brought, list_of, content_
 use Rattle.history.specs.Replay.{written_by, next_list}
 use Rattle.history.proofs.Sound.{known_later, version_sound}
 use Rattle.nodes.specs.declared.node.Node.{Node}
+use Rattle.nodes.specs.declared.node.Block.{Block}
 use Rattle.nodes.specs.Holding.{Grown}
+use Rattle.nodes.specs.Making.{LeafOf}
 use Rattle.nodes.specs.Walking.{Ready, Room, LaidOut, CountedTo}
 use Rattle.nodes.proofs.Tables.{nth_set_same, nth_set_other}
 use Rattle.archive.specs.declared.version.Version.{Version}
@@ -43,8 +45,11 @@ module _ {R Q : Type 0} (means : Summing R Q) (s : Tables Q) (es : List (Edit R)
   known = All-weaker (Known es) (Known (e ∷ es)) (known_later e es) (list_of es (base_of e)) (version_sound es (base_of e)).known
 
   -- what the edit brings stands under its identity
-  pub brought_is : content_of (e ∷ es) (suc (length es)) ≡ brought e
+  brought_is : content_of (e ∷ es) (suc (length es)) ≡ brought e
   brought_is = cond-true (eqb (suc (length es)) (suc (length es))) _ _ (eq-eqb _ _ refl)
+
+  pub brought_leaf : (block : Block Q) → LeafOf means (brought e) block → LeafOf means (content_of (e ∷ es) (suc (length es))) block
+  brought_leaf block = subst (λ c. LeafOf means c block) (sym brought_is)
 
   -- what the walk asks of the base's tree, with the new block among the contents
   pub base_ready : Ready means (content_of (e ∷ es)) s.nodes s.used from.root b.tree

@@ -15,10 +15,12 @@ use Rattle.history.specs.Replay.{path, written_by, next_list}
 use Rattle.history.proofs.Sound.{histories_sound}
 use Rattle.history.proofs.Bounds.{edits_bounded}
 use Rattle.nodes.specs.declared.node.Node.{Node}
+use Rattle.nodes.specs.declared.node.Block.{Block}
 use Rattle.nodes.specs.declared.walks.Built.{Built}
 use Rattle.nodes.specs.Holding.{Grown}
+use Rattle.nodes.specs.Making.{LeafOf}
 use Rattle.nodes.specs.Cutting.{insert_at, Inserted}
-use Rattle.nodes.specs.Walking.{LaidOut, BlockOf}
+use Rattle.nodes.specs.Walking.{LaidOut}
 use Rattle.nodes.proofs.Parts.{insert_keeps}
 use Rattle.nodes.proofs.Plans.{insert_plain}
 use Rattle.archive.specs.declared.version.Version.{Version}
@@ -33,7 +35,7 @@ use Rattle.archive.proofs.Later.{nth_front, nth_end, list_later, list_new}
 use Rattle.archive.proofs.Planned.{insert_planned}
 use Rattle.archive.proofs.Tried.{passed, all_passed}
 use Rattle.archive.proofs.Looks.{found_below, BaseFound}
-use Rattle.archive.proofs.Edited.{kept_spots, brought_is, base_ready, base_place, made_is, has_room, edit_stands}
+use Rattle.archive.proofs.Edited.{kept_spots, brought_leaf, base_ready, base_place, made_is, has_room, edit_stands}
 
 -- a look that answers a record has met no refusal
 pub looked_ok : (o : Option EditFault) (v : Option Version) (from : Version) → RefusedOr o v (Ok from) → (o ≡ None) × (v ≡ Some from)
@@ -105,14 +107,14 @@ module _ {R : Type 0} where
       past w h = let n = (histories_sound (e ∷ es)).0 in ap (λ o. unwrap_or o []) (slice_get_past (lists (e ∷ es)) w (omega arith))
 
 module _ {R Q S : Type 0} (means : Summing R Q) (keeps : Keeping S R) (s : Tables Q) (store after : S) (base place level : ℕ) (row : List R) (from : Version)
-    (n : ℕ) (nodes : List (Node Q)) (at next : ℕ) where
+    (n : ℕ) (block : Block Q) (nodes : List (Node Q)) (at next : ℕ) where
   -- the record that is written
   abbrev pub noted : Version
-  noted = record { parent = base; edit = Insert; place = place; level = level; block = n; root = at; blocks = (from.blocks + 1) % 2 ^ 32; readings = (from.readings + length row) % 2 ^ 32; written = next - s.used }
+  noted = record { parent = base; edit = Insert; place = place; level = level; block = block.number; root = at; blocks = (from.blocks + 1) % 2 ^ 32; readings = (from.readings + block.length) % 2 ^ 32; written = next - s.used }
 
   module _ (es : List (Edit R)) (st : Stands means keeps.rows es s store) (looked : RefusedOr (insert_refusal s es base place level (length row)) (slice_get s.versions base) (Ok from))
-      (taken : Taken keeps.rows keeps.refuses store row n after) (grown : Grown s.nodes s.used nodes next)
-      (walked : Inserted means (keeps.rows after) s.nodes s.used from.root place n (length row) nodes at next level) (size : length nodes ≡ length s.nodes) where
+      (taken : Taken keeps.rows keeps.refuses store row n after) (leaf : LeafOf means (record { number = n; row = row }) block) (grown : Grown s.nodes s.used nodes next)
+      (walked : Inserted means s.nodes s.used from.root place block nodes at next level) (size : length nodes ≡ length s.nodes) where
     new : Content R
     new = record { number = n; row = row }
 
@@ -144,9 +146,7 @@ module _ {R Q S : Type 0} (means : Summing R Q) (keeps : Keeping S R) (s : Table
         let used_is = tb.used_up in
         let enough : path xs place + 2 ≤ node_limit s - s.used = subst (λ u. path xs place + 2 ≤ node_limit s - u) (sym used_is) p.enough in
         let room = has_room means s es tb e from b plan planned (path xs place + 2) bound enough in
-        let block : BlockOf (keeps.rows after) (content_of (e ∷ es) (suc (length es))) n (length row) = subst (λ c. BlockOf (keeps.rows after) c n (length row)) (sym (brought_is means s es tb e from b))
-        (record { stored = λ _. placed_new (keeps.rows store) (keeps.rows after) row n taken.placed; number = refl; size = refl }) in
-        let out : LaidOut means (content_of (e ∷ es)) s.used plan nodes at next = walked (content_of (e ∷ es)) (suc (length es)) block b.tree place (base_ready means s es tb e from b) (base_place means s es tb e from b place in_place) room in
+        let out : LaidOut means (content_of (e ∷ es)) s.used plan nodes at next = walked (content_of (e ∷ es)) (suc (length es)) (brought_leaf means s es tb e from b block leaf) b.tree place (base_ready means s es tb e from b) (base_place means s es tb e from b place in_place) room in
         let mw : made plan ≡ written_by es e = made_is means s es tb e from b plan planned in
         let up : next ≡ s.used + made plan = out.used_up in
         let fits = tb.nodes_fit in
@@ -155,10 +155,10 @@ module _ {R Q S : Type 0} (means : Summing R Q) (keeps : Keeping S R) (s : Table
         let long = length_between place xs item in_place in
         let few : length (next_list es e) ≤ 500 = omega arith in
         let blocks : (from.blocks + 1) % 2 ^ 32 ≡ length (next_list es e) = (let q = b.told_of.blocks_is in mod-eq_of_lt (omega arith) ∙ omega arith) in
-        let readings : (from.readings + length row) % 2 ^ 32 ≡ readings_in (next_list es e) = (let q = b.told_of.readings_is in let l = readings_few xs w.fair in let m = p.most in mod-eq_of_lt (omega arith) ∙ (let t = readings_between place xs item in omega arith)) in
+        let readings : (from.readings + block.length) % 2 ^ 32 ≡ readings_in (next_list es e) = (let z : block.length ≡ length row = leaf.size in let q = b.told_of.readings_is in let l = readings_few xs w.fair in let m = p.most in mod-eq_of_lt (omega arith) ∙ (let t = readings_between place xs item in omega arith)) in
         let grew : next ≡ s.used + written_by es e = up ∙ ap (λ k. s.used + k) mw in
         let count : next - s.used ≡ written_by es e = sub_is next s.used (written_by es e) grew in
-        let is : noted ≡ edit_record es e (next_list es e) at = λ i. record { parent = base; edit = Insert; place = place; level = level; block = n; root = at; blocks = blocks i; readings = readings i; written = count i } in
+        let is : noted ≡ edit_record es e (next_list es e) at = λ i. record { parent = base; edit = Insert; place = place; level = level; block = leaf.number i; root = at; blocks = blocks i; readings = readings i; written = count i } in
         record {
           number = n;
           fits = taken.fits;

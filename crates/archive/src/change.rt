@@ -3,6 +3,7 @@ ghost use Rattle.std.specs.Prelude.{◌<◌, OnOk};
 ghost use Rattle.archive.specs.Stands.{tables_of};
 ghost use Rattle.archive.specs.Editing.{EditLeft, ChangeLaw};
 
+use crate::block::block_of;
 use crate::fault::EditFault;
 use crate::look::look_change;
 use crate::version::{Kind, Version};
@@ -26,16 +27,15 @@ pub(crate) fn change_in<S: BlockStore, Q: Summary<Reading = S::Reading> + Copy>(
     ensures room { OnOk result (count < 4096) }
 {
     let from = look_change(nodes, used, versions, count, base, place, row.len())?;
-    let block = store.put(row)?;
-    let length = row.len() as u32;
-    let built = write_change(nodes, used, store, from.root, place + 1, block, length);
+    let block = block_of(store.put(row)?, row);
+    let built = write_change(nodes, used, from.root, place + 1, block);
     let blocks = blocks_in(nodes, built.root);
     let readings = readings_in(nodes, built.root);
     let version = Version {
         parent: base,
         edit: Kind::Change,
         place,
-        block,
+        block: block.number,
         blocks,
         readings,
         ..Version::default()

@@ -3,6 +3,7 @@ ghost use Rattle.std.specs.Prelude.{◌<◌, OnOk};
 ghost use Rattle.archive.specs.Stands.{tables_of};
 ghost use Rattle.archive.specs.Editing.{EditLeft, InsertLaw};
 
+use crate::block::block_of;
 use crate::fault::EditFault;
 use crate::look::look_insert;
 use crate::version::{Kind, Version};
@@ -27,17 +28,16 @@ pub(crate) fn insert_in<S: BlockStore, Q: Summary<Reading = S::Reading> + Copy>(
     ensures room { OnOk result (count < 4096) }
 {
     let from = look_insert(nodes, used, versions, count, base, place, level, row.len())?;
-    let block = store.put(row)?;
-    let length = row.len() as u32;
-    let built = write_insert(nodes, used, store, from.root, place, level, block, length);
+    let block = block_of(store.put(row)?, row);
+    let built = write_insert(nodes, used, from.root, place, level, block);
     let blocks = from.blocks.wrapping_add(1);
-    let readings = from.readings.wrapping_add(length);
+    let readings = from.readings.wrapping_add(block.length);
     let version = Version {
         parent: base,
         edit: Kind::Insert,
         place,
         level,
-        block,
+        block: block.number,
         blocks,
         readings,
         ..Version::default()

@@ -4,6 +4,7 @@
 mod ask;
 mod begin;
 mod begins;
+mod block;
 mod change;
 mod fault;
 mod insert;

@@ -12,7 +12,7 @@ use Rattle.laid.specs.Laid.{Laid, fork, plain}
 use Rattle.nodes.specs.Holding.{Grown}
 use Rattle.nodes.specs.Views.{seen, blocks_in, kept_in}
 use Rattle.nodes.specs.Making.{LeafWritten, ForkWritten}
-use Rattle.nodes.specs.Changing.{change_at, ChangeMade}
+use Rattle.nodes.specs.Changing.{change_at, Changed}
 use Rattle.nodes.proofs.Held.{ready_on}
 use Rattle.nodes.proofs.Laying.{Laying, room_leaf, room_below, room_beside, as_kept, lay_kept, lay_last, lay_leaf, lay_fork}
 use Rattle.nodes.proofs.Tables.{grown_none}
@@ -27,30 +27,30 @@ unfolding change_at
 change_after_is n e m x y p h = cond-false _ _ _ (le-ltb p (leaves (plain x)) h)
 
 module _ {R Q : Type 0} (s : Summing R Q) (before : List (Node Q)) {used at upto : ℕ} {block : Block Q} where
-  pub change_nothing : {after : List (Node Q)} {r next : ℕ} → None ≡ seen at (slice_get before at) → ChangeMade s before used at upto block after r next
+  pub change_nothing : {after : List (Node Q)} {r next : ℕ} → None ≡ seen at (slice_get before at) → Changed s before used at upto block after r next
   change_nothing see c n k = walk_nothing s c (change_at n) see
 
   pub change_last : {after : List (Node Q)} {b l next : ℕ} → Some (Leaf b l None) ≡ seen at (slice_get before at)
-      → LeafWritten s before used block None after next → ChangeMade s before used at upto block after used next
+      → LeafWritten s before used block None after next → Changed s before used at upto block after used next
   unfolding change_at
   change_last see w c n k = walk_last s c (change_at n) see (λ e a p _ _ _ room. lay_last s c n w k room)
 
   pub change_stop : {after : List (Node Q)} {b l k own next : ℕ} → Some (Leaf b l (Some k)) ≡ seen at (slice_get before at) → own ≡ min l 1 → upto ≤ own
-      → LeafWritten s before used block (Some k) after next → ChangeMade s before used at upto block after used next
+      → LeafWritten s before used block (Some k) after next → Changed s before used at upto block after used next
   unfolding change_at
   change_stop see o u w c n k = walk_stop s c (change_at n) see o u (λ e a y _ ready _. lay_leaf s c before n (keep y) (lay_kept s c y ready) w k refl)
 
   pub change_on : {mid after : List (Node Q)} {b l k own r v next : ℕ} {kept : Block Q} → Some (Leaf b l (Some k)) ≡ seen at (slice_get before at) → kept ≡ kept_in s b l (slice_get before at) → own ≡ min l 1 → own < upto
-      → ChangeMade s before used k (upto - own) block mid r v → length mid ≡ length before
-      → LeafWritten s mid v kept (Some r) after next → ChangeMade s before used at upto block after v next
+      → Changed s before used k (upto - own) block mid r v → length mid ≡ length before
+      → LeafWritten s mid v kept (Some r) after next → Changed s before used at upto block after v next
   unfolding change_at
   change_on see z o u rest size w c n k =
       walk_on s c (change_at n) see o u
       (λ e a y p old ready _ _ i room. lay_leaf s c before a (change_at n y p) (rest c n k y p ready i (room_leaf s c _ room)) w (as_kept s c z old) size room)
 
   pub change_below : {mid after : List (Node Q)} {m j k blocks r v next : ℕ} → Some (Fork m j k) ≡ seen at (slice_get before at) → blocks ≡ blocks_in (slice_get before j) → upto ≤ blocks
-      → Grown before used mid v → ChangeMade s before used j upto block mid r v → length mid ≡ length before
-      → ForkWritten s mid v m r k after next → ChangeMade s before used at upto block after v next
+      → Grown before used mid v → Changed s before used j upto block mid r v → length mid ≡ length before
+      → ForkWritten s mid v m r k after next → Changed s before used at upto block after v next
   change_below {mid} {after} {m} {v = v} {next = next} see b u grown part size w c n k =
       walk_below s c (change_at n) see b u
       (λ e x y p low below behind _ _ i.
@@ -58,8 +58,8 @@ module _ {R Q : Type 0} (s : Summing R Q) (before : List (Node Q)) {used at upto
       (λ room. lay_fork s c before m (change_at n x p) (keep y) (part c n k x p below i (room_below s c _ _ room)) (grown_none mid v) (lay_kept s c y (ready_on s c y grown behind)) w size room))
 
   pub change_after : {mid after : List (Node Q)} {m j k blocks r v next : ℕ} → Some (Fork m j k) ≡ seen at (slice_get before at) → blocks ≡ blocks_in (slice_get before j) → blocks < upto
-      → Grown before used mid v → ChangeMade s before used k (upto - blocks) block mid r v → length mid ≡ length before
-      → ForkWritten s mid v m j r after next → ChangeMade s before used at upto block after v next
+      → Grown before used mid v → Changed s before used k (upto - blocks) block mid r v → length mid ≡ length before
+      → ForkWritten s mid v m j r after next → Changed s before used at upto block after v next
   change_after {mid} {after} {m} {v = v} {next = next} see b u grown part size w c n k =
       walk_after s c (change_at n) see b u
       (λ e x y p high below behind _ _ i.

@@ -8,7 +8,7 @@ use Rattle.nodes.specs.declared.node.Block.{Block}
 use Rattle.laid.specs.Laid.{Laid, last, leaf, fork, plain}
 use Rattle.nodes.specs.Holding.{Content}
 use Rattle.nodes.specs.Making.{LeafOf}
-use Rattle.nodes.specs.Walking.{BlockOf, Walked}
+use Rattle.nodes.specs.Walking.{Walked}
 
 -- the block at a place takes the identity n
 unfoldable pub change_at : ℕ → Laid → ℕ → Plan Laid
@@ -18,11 +18,6 @@ change_at n (leaf e a t) (suc p) = new_leaf a (change_at n t p)
 change_at n (fork e m x y) p = cond (nat_lt p (leaves (plain x))) (new_fork m (change_at n x p) (keep y)) (new_fork m (keep x) (change_at n y (p - leaves (plain x))))
 
 -- what a walk that changes a block leaves, given the new block as its leaf keeps it
-abbrev pub ChangeMade : {R Q : Type 0} → Summing R Q → List (Node Q) → ℕ → ℕ → ℕ → Block Q → List (Node Q) → ℕ → ℕ → Type 0
-ChangeMade {R} s before used at upto block after root next =
+abbrev pub Changed : {R Q : Type 0} → Summing R Q → List (Node Q) → ℕ → ℕ → ℕ → Block Q → List (Node Q) → ℕ → ℕ → Type 0
+Changed {R} s before used at upto block after root next =
     (c : ℕ → Content R) (n : ℕ) → LeafOf s (c n) block → Walked s c (change_at n) before used at upto after root next
-
--- the same for a stored block
-abbrev pub Changed : {R Q : Type 0} → Summing R Q → List (List R) → List (Node Q) → ℕ → ℕ → ℕ → ℕ → ℕ → List (Node Q) → ℕ → ℕ → Type 0
-Changed {R} s rows before used at upto block len after root next =
-    (c : ℕ → Content R) (n : ℕ) → BlockOf rows (c n) block len → Walked s c (change_at n) before used at upto after root next

@@ -8,7 +8,7 @@ use Rattle.nodes.specs.declared.node.Block.{Block}
 use Rattle.laid.specs.Laid.{Laid, last, leaf, fork, plain}
 use Rattle.nodes.specs.Holding.{Content}
 use Rattle.nodes.specs.Making.{LeafOf}
-use Rattle.nodes.specs.Walking.{BlockOf, Walked}
+use Rattle.nodes.specs.Walking.{Walked}
 
 -- whether a tree ends at a place
 abbrev pub ends_at : Laid → ℕ → Bool
@@ -57,10 +57,5 @@ module _ {R Q : Type 0} (s : Summing R Q) (before : List (Node Q)) (used at upto
   abbrev pub CutMade : ℕ → Type 0
   CutMade level = (c : ℕ → Content R) (n : ℕ) → LeafOf s (c n) block → Walked s c (cut_at n level) before used at upto after root next
 
-  abbrev pub InsertMade : ℕ → Type 0
-  InsertMade level = (c : ℕ → Content R) (n : ℕ) → LeafOf s (c n) block → Walked s c (insert_at n level) before used at upto after root next
-
--- the last for a stored block
-abbrev pub Inserted : {R Q : Type 0} → Summing R Q → List (List R) → List (Node Q) → ℕ → ℕ → ℕ → ℕ → ℕ → List (Node Q) → ℕ → ℕ → ℕ → Type 0
-Inserted {R} s rows before used at upto block len after root next level =
-    (c : ℕ → Content R) (n : ℕ) → BlockOf rows (c n) block len → Walked s c (insert_at n level) before used at upto after root next
+  abbrev pub Inserted : ℕ → Type 0
+  Inserted level = (c : ℕ → Content R) (n : ℕ) → LeafOf s (c n) block → Walked s c (insert_at n level) before used at upto after root next

@@ -4,10 +4,9 @@ use Rattle.flexlist.specs.Building.{Plan, made}
 use Rattle.flexlist.specs.Nodes.{leaves}
 use Rattle.summary.specs.Summing.{Summing}
 use Rattle.nodes.specs.declared.node.Node.{Node}
-use Rattle.nodes.specs.declared.node.Block.{Block}
 use Rattle.laid.specs.Laid.{Laid, last, leaf, fork, plain, root, leader, lay}
 use Rattle.nodes.specs.Holding.{Content, Holds, Counted, own_blocks}
-use Rattle.nodes.specs.Making.{Stored, LeafOf}
+use Rattle.nodes.specs.Making.{Stored}
 
 -- every block of a laid tree stands in the list of rows under its number
 abbrev pub AllStored : {R : Type 0} → List (List R) → (ℕ → Content R) → Laid → Type 0
@@ -34,16 +33,6 @@ module _ {R Q : Type 0} (s : Summing R Q) (c : ℕ → Content R) where
     pub here : root (lay plan used) ≡ at
     pub under : root (lay plan used) < next
     pub used_up : next ≡ used + made plan
-
--- a block number and a length are those of a stored block
-pub record BlockOf {R : Type 0} (rows : List (List R)) (k : Content R) (block len : ℕ) : Type 0 where
-  pub stored : Stored rows k
-  pub number : block ≡ k.number
-  pub size : len ≡ length k.row
-
--- a block that is read from the store, as its leaf keeps it
-abbrev pub BlockRead : {R Q : Type 0} → Summing R Q → List (List R) → ℕ → ℕ → Block Q → Type 0
-BlockRead {R} s rows block len read = (k : Content R) → BlockOf rows k block len → LeafOf s k read
 
 -- a place of a tree, by how many blocks stand up to it and with it: the lead counts as none
 abbrev pub CountedTo : {R : Type 0} → (ℕ → Content R) → Laid → ℕ → ℕ → Type 0

@@ -8,43 +8,38 @@ ghost use Rattle.nodes.specs.Removing.{Removed};
 
 use crate::change::change;
 use crate::insert::insert;
-use crate::node::Node;
+use crate::node::{Block, Node};
 use crate::remove::remove;
 use crate::walks::Built;
-use store::BlockStore;
 use summary::Summary;
 
-// Writes the tree at an entry with a block in place of the one that `upto` blocks lead to.
-pub fn write_change<S: BlockStore, Q: Summary<Reading = S::Reading> + Copy>(
+// Writes the tree at an entry with the block given in place of the one that `upto` blocks lead to.
+pub fn write_change<Q: Summary + Copy>(
     nodes: &mut [Node<Q>],
     used: u32,
-    store: &S,
     at: u32,
     upto: u32,
-    block: u32,
-    length: u32,
+    block: Block<Q>,
 ) -> Built
     ensures grown { Grown nodes.old used nodes.new result.used }
-    ensures changed { Changed Q.Summary.means (S.BlockStore.rows store.now) nodes.old used at upto block length nodes.new result.root result.used }
+    ensures changed { Changed Q.Summary.means nodes.old used at upto block nodes.new result.root result.used }
 {
-    change(nodes, used, store, at, upto, block, length)
+    change(nodes, used, at, upto, block)
 }
 
-// Writes the tree at an entry with a block of the level given after the one that `upto` blocks lead to.
-pub fn write_insert<S: BlockStore, Q: Summary<Reading = S::Reading> + Copy>(
+// Writes the tree at an entry with the block given, of the level given, after the one that `upto` blocks lead to.
+pub fn write_insert<Q: Summary + Copy>(
     nodes: &mut [Node<Q>],
     used: u32,
-    store: &S,
     at: u32,
     upto: u32,
     level: u8,
-    block: u32,
-    length: u32,
+    block: Block<Q>,
 ) -> Built
     ensures grown { Grown nodes.old used nodes.new result.used }
-    ensures inserted { Inserted Q.Summary.means (S.BlockStore.rows store.now) nodes.old used at upto block length nodes.new result.root result.used level }
+    ensures inserted { Inserted Q.Summary.means nodes.old used at upto block nodes.new result.root result.used level }
 {
-    insert(nodes, used, store, at, upto, level, block, length)
+    insert(nodes, used, at, upto, level, block)
 }
 
 // Writes the tree at an entry without the block that `upto` blocks lead to.

@@ -1,14 +1,13 @@
 // A block put into a tree.
 ghost use Rattle.std.specs.Prelude.{◌≡◌, nat_le, nat_lt};
 ghost use Rattle.nodes.specs.Holding.{Grown};
-ghost use Rattle.nodes.specs.Cutting.{CutMade, InsertMade, Inserted};
+ghost use Rattle.nodes.specs.Cutting.{CutMade, Inserted};
 
-use crate::makers::{read, write_fork, write_leaf};
+use crate::makers::{write_fork, write_leaf};
 use crate::node::{Block, Node, Shape};
 use crate::pieces::{left, right};
 use crate::table::{blocks_in, kept_block, view};
 use crate::walks::Built;
-use store::BlockStore;
 use summary::Summary;
 
 // Writes the tree cut after the block that `upto` blocks lead to, under a fork of the level given, the block given first after it.
@@ -43,7 +42,7 @@ fn cuts_after(level: u8, fork: u8) -> bool
 }
 
 // Writes the tree with the block given, of the level given, after the block that `upto` blocks lead to.
-fn insert_walk<Q: Summary + Copy>(
+pub(crate) fn insert<Q: Summary + Copy>(
     nodes: &mut [Node<Q>],
     used: u32,
     at: u32,
@@ -52,7 +51,7 @@ fn insert_walk<Q: Summary + Copy>(
     block: Block<Q>,
 ) -> Built
     ensures grown { Grown nodes.old used nodes.new result.used }
-    ensures made { InsertMade Q.Summary.means nodes.old used at upto block nodes.new result.root result.used level }
+    ensures inserted { Inserted Q.Summary.means nodes.old used at upto block nodes.new result.root result.used level }
 {
     let Some(shape) = view(nodes, at) else {
         return Built { root: at, used };
@@ -79,7 +78,7 @@ fn insert_walk<Q: Summary + Copy>(
                 let leaf = write_leaf(nodes, used, block, Some(after));
                 return write_leaf(nodes, leaf.used, kept, Some(leaf.root));
             }
-            let rest = insert_walk(nodes, used, after, upto - own, level, block);
+            let rest = insert(nodes, used, after, upto - own, level, block);
             write_leaf(nodes, rest.used, kept, Some(rest.root))
         }
         Shape::Fork {
@@ -92,32 +91,14 @@ fn insert_walk<Q: Summary + Copy>(
                 if cuts_before(level, high) {
                     return cut(nodes, used, at, upto, level, block);
                 }
-                let part = insert_walk(nodes, used, below, upto, level, block);
+                let part = insert(nodes, used, below, upto, level, block);
                 return write_fork(nodes, part.used, high, part.root, after);
             }
             if cuts_after(level, high) {
                 return cut(nodes, used, at, upto, level, block);
             }
-            let part = insert_walk(nodes, used, after, upto - count, level, block);
+            let part = insert(nodes, used, after, upto - count, level, block);
             write_fork(nodes, part.used, high, below, part.root)
         }
     }
-}
-
-// The same for a stored block.
-pub(crate) fn insert<S: BlockStore, Q: Summary<Reading = S::Reading> + Copy>(
-    nodes: &mut [Node<Q>],
-    used: u32,
-    store: &S,
-    at: u32,
-    upto: u32,
-    level: u8,
-    number: u32,
-    length: u32,
-) -> Built
-    ensures grown { Grown nodes.old used nodes.new result.used }
-    ensures inserted { Inserted Q.Summary.means (S.BlockStore.rows store.now) nodes.old used at upto number length nodes.new result.root result.used level }
-{
-    let block = read(store, number, length);
-    insert_walk(nodes, used, at, upto, level, block)
 }

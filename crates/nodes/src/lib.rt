@@ -1,4 +1,5 @@
-// The nodes of versions in a table, and the walks over it. A walk takes time in proportion to its path; of the rows, an edit reads the new one alone.
+// The nodes of versions in a table, and the walks over it. A walk takes time in proportion to its path. No edit reads a row: the block that it brings is
+// given with its row's summary.
 #![tactic(auto)]
 
 mod change;
