@@ -1,4 +1,4 @@
-// An insert: the look, the row into the store, the walk, the record.
+// An insert: the look, the row into the store, its block, the walk, the record.
 ghost use Rattle.std.specs.Prelude.{◌<◌, OnOk};
 ghost use Rattle.archive.specs.Stands.{tables_of};
 ghost use Rattle.archive.specs.Editing.{EditLeft, InsertLaw};
