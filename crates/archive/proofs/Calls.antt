@@ -75,8 +75,8 @@ module _ {R Q S : Type 0} (means : Summing R Q) (keeps : Keeping S R) (s : Archi
     done_growth = let m = left.grown.more in omega arith
 
     -- the row as it was taken, under the number that the law names
-    taken : (n : ℕ) → Placed (keeps.rows s.store) row n (keeps.rows after) → Taken keeps.rows keeps.refuses s.store row n after
-    taken n p = record { fits = left.put.fits; some = left.put.some; most = left.put.most; placed = p }
+    taken : (n : ℕ) → Placed (keeps.rows s.store) row n (keeps.rows after) → Taken keeps.rows keeps.refuses keeps.area_long s.store row n after
+    taken n p = record { fits = left.put.fits; some = left.put.some; most = left.put.most; placed = p; same_area = left.put.same_area }
 
     module _ (base place level : ℕ) (law : InsertLaw means keeps s.tables s.store base place level row (Ok b) nodes versions after) where
       insert_accepted : (es : List (Edit R)) → StandsInPlace means keeps es s.tables s.store → insert_refusal s.tables es base place level (length row) ≡ None

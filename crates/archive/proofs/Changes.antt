@@ -59,7 +59,7 @@ module _ {R Q S : Type 0} (means : Summing R Q) (keeps : Keeping S R) (s : Table
   noted = record { parent = base; edit = Change; place = place; level = 0; block = block.number; root = at; blocks = some_blocks; readings = some_readings; written = next - s.used }
 
   module _ (es : List (Edit R)) (st : Stands means keeps.rows es s store) (looked : RefusedOr (change_refusal s es base place (length row)) (slice_get s.versions base) (Ok from))
-      (taken : Taken keeps.rows keeps.refuses store row n after) (leaf : LeafOf means (record { number = n; row = row }) block) (grown : Grown s.nodes s.used nodes next)
+      (taken : Taken keeps.rows keeps.refuses keeps.area_long store row n after) (leaf : LeafOf means (record { number = n; row = row }) block) (grown : Grown s.nodes s.used nodes next)
       (walked : Changed means s.nodes s.used from.root (place + 1) block nodes at next) (size : length nodes ≡ length s.nodes)
       (blocks_read : some_blocks ≡ blocks_in (slice_get nodes at)) (readings_read : some_readings ≡ readings_at (slice_get nodes at)) where
     new : Content R

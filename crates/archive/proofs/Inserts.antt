@@ -113,7 +113,7 @@ module _ {R Q S : Type 0} (means : Summing R Q) (keeps : Keeping S R) (s : Table
   noted = record { parent = base; edit = Insert; place = place; level = level; block = block.number; root = at; blocks = (from.blocks + 1) % 2 ^ 32; readings = (from.readings + block.length) % 2 ^ 32; written = next - s.used }
 
   module _ (es : List (Edit R)) (st : Stands means keeps.rows es s store) (looked : RefusedOr (insert_refusal s es base place level (length row)) (slice_get s.versions base) (Ok from))
-      (taken : Taken keeps.rows keeps.refuses store row n after) (leaf : LeafOf means (record { number = n; row = row }) block) (grown : Grown s.nodes s.used nodes next)
+      (taken : Taken keeps.rows keeps.refuses keeps.area_long store row n after) (leaf : LeafOf means (record { number = n; row = row }) block) (grown : Grown s.nodes s.used nodes next)
       (walked : Inserted means s.nodes s.used from.root place block nodes at next level) (size : length nodes ≡ length s.nodes) where
     new : Content R
     new = record { number = n; row = row }

@@ -65,9 +65,9 @@ Answered None (Err f) accepted refused = (c : Cause) × (f ≡ fault.Store c) ×
 module _ {R Q S : Type 0} (means : Summing R Q) (keeps : Keeping S R) where
   -- a row is put once, and a removal has none
   abbrev pub RowPut : S → Asked R → ℕ → S → Type 0
-  RowPut s (insert base place level row) n t = Taken keeps.rows keeps.refuses s row n t
-  RowPut s (append base row) n t = Taken keeps.rows keeps.refuses s row n t
-  RowPut s (change base place row) n t = Taken keeps.rows keeps.refuses s row n t
+  RowPut s (insert base place level row) n t = Taken keeps.rows keeps.refuses keeps.area_long s row n t
+  RowPut s (append base row) n t = Taken keeps.rows keeps.refuses keeps.area_long s row n t
+  RowPut s (change base place row) n t = Taken keeps.rows keeps.refuses keeps.area_long s row n t
   RowPut s (removal base place) n t = t ≡ s
 
   -- with this cause the store refuses the row; a removal it never refuses

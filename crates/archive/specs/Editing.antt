@@ -29,7 +29,7 @@ module _ {R Q S : Type 0} (means : Summing R Q) (keeps : Keeping S R) where
     pub version : Version
     pub recorded : versions ≡ slice_set t.versions t.count version
     pub number : ℕ
-    pub put : Put keeps.rows keeps.refuses store row (Ok number) after
+    pub put : Put keeps.rows keeps.refuses keeps.area_long store row (Ok number) after
 
   abbrev pub EditLeft : Tables Q → S → List R → Result Built EditFault → List (Node Q) → List Version → S → Type 0
   EditLeft t store row (Ok b) nodes versions after = RowEditLeft t store row b nodes versions after

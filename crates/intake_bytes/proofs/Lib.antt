@@ -1,5 +1,5 @@
 pub mod Bytes
 pub mod Inserts
 pub mod Begins
-pub mod Known
+pub mod Room
 pub mod Takes

@@ -5,10 +5,10 @@ ghost use Rattle.piles.specs.Piles.{Piled};
 
 use store::BlockStore;
 
-// Layers to any depth over any store: the pile's list is the store's, and a row is refused exactly where no layer remembers it and the
-// store refuses it. The store's list and refusals stand apart, as each layer takes them.
+// Layers to any depth over any store: the pile's list is the store's, and its area too, and a row is refused exactly where no layer remembers
+// it and the store refuses it. What the store keeps stands apart, member by member, as each layer takes it.
 pub fn pile_meaning<S: BlockStore>() -> u8
-    ensures { Piled S.BlockStore.rows S.BlockStore.refuses }
+    ensures { Piled S.BlockStore.rows S.BlockStore.refuses S.BlockStore.area_long }
 {
     0
 }

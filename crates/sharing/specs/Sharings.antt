@@ -1,4 +1,4 @@
--- The sharing layer: its list is the list below; a row that equals a remembered block is that block, and any other goes below. Assumes nothing.
+-- The sharing layer: its list and its area are those below; a row that equals a remembered block is that block, and any other goes below. Assumes nothing.
 use Rattle.std.specs.Prelude.{◌≡◌, ℕ, List, ◌∷◌, take, Some, None, Ok, Err, Option, Result}
 use Rattle.store.specs.declared.cause.Cause.{Cause}
 use Rattle.store.specs.Interface.{Put}
@@ -14,22 +14,26 @@ Noted before (Err c) after = after ≡ before
 abbrev pub shared_rows : {S R : Type 0} → (S → List (List R)) → Sharing S → List (List R)
 shared_rows rows s = rows s.below
 
+abbrev pub shared_long : {S : Type 0} → (S → ℕ) → Sharing S → ℕ
+shared_long area_long s = area_long s.below
+
 module _ {S R : Type 0} (rows : S → List (List R)) (refuses : S → List R → Cause → Type 0) where
   -- no remembered block equals the row, and the store below refuses it
   abbrev pub shared_refuses : Sharing S → List R → Cause → Type 0
   shared_refuses s row c = Unknown (rows s.below) row (remembered s.recent) × refuses s.below row c
 
-  -- the row went below, and the table has the number that came up
-  pub record Passed (s : Sharing S) (row : List R) (r : Result ℕ Cause) (t : Sharing S) : Type 0 where
-    pub below : Put rows refuses s.below row r t.below
-    pub table : Noted s.recent r t.recent
+  module _ (area_long : S → ℕ) where
+    -- the row went below, and the table has the number that came up
+    pub record Passed (s : Sharing S) (row : List R) (r : Result ℕ Cause) (t : Sharing S) : Type 0 where
+      pub below : Put rows refuses area_long s.below row r t.below
+      pub table : Noted s.recent r t.recent
 
-  -- by the first remembered block that equals the row, if any
-  abbrev pub Answered : Sharing S → List R → Option ℕ → Result ℕ Cause → Sharing S → Type 0
-  Answered s row (Some n) r t = (r ≡ Ok n) × (t ≡ s)
-  Answered s row None r t = Passed s row r t
+    -- by the first remembered block that equals the row, if any
+    abbrev pub Answered : Sharing S → List R → Option ℕ → Result ℕ Cause → Sharing S → Type 0
+    Answered s row (Some n) r t = (r ≡ Ok n) × (t ≡ s)
+    Answered s row None r t = Passed s row r t
 
-  pub record Layered (s : Sharing S) (row : List R) (r : Result ℕ Cause) (t : Sharing S) : Type 0 where
-    pub found : Option ℕ
-    pub first : First (rows s.below) row (remembered s.recent) found
-    pub answered : Answered s row found r t
+    pub record Layered (s : Sharing S) (row : List R) (r : Result ℕ Cause) (t : Sharing S) : Type 0 where
+      pub found : Option ℕ
+      pub first : First (rows s.below) row (remembered s.recent) found
+      pub answered : Answered s row found r t

@@ -2,3 +2,4 @@ pub mod Answering
 pub mod Cells
 pub mod Cutting
 pub mod Refusing
+pub mod Filling

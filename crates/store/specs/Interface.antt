@@ -1,4 +1,4 @@
--- What a block store means, a list of rows numbered from 0 and what refuses a row now, and what its calls answer and leave. Assumes nothing.
+-- What a block store means, a list of rows numbered from 0, what refuses a row now and how long its area is, and what its calls answer and leave. Assumes nothing.
 use Rattle.std.specs.Prelude.{◌≡◌, ℕ, ◌+◌, ◌≤◌, List, [], ◌∷◌, ◌++◌, length, take, drop, cond, nat_le, Some, None, Ok, Err, Option, Result}
 use Rattle.std.specs.List.{slice_get}
 use Rattle.store.specs.declared.cause.Cause.{Cause}
@@ -8,13 +8,14 @@ pub data Placed {R : Type 0} (before : List (List R)) (row : List R) (n : ℕ) (
   earlier : after ≡ before → slice_get before n ≡ Some row → Placed before row n after
   added : after ≡ before ++ (row ∷ []) → n ≡ length before → Placed before row n after
 
-module _ {S R : Type 0} (rows : S → List (List R)) (refuses : S → List R → Cause → Type 0) where
-  -- a row that was taken, under the number n
+module _ {S R : Type 0} (rows : S → List (List R)) (refuses : S → List R → Cause → Type 0) (area_long : S → ℕ) where
+  -- a row that was taken, under the number n; the area is as long as it was
   pub record Taken (s : S) (row : List R) (n : ℕ) (t : S) : Type 0 where
     pub fits : (c : Cause) → refuses s row c → ⊥
     pub some : 1 ≤ length row
     pub most : length row ≤ 1024
     pub placed : Placed (rows s) row n (rows t)
+    pub same_area : area_long t ≡ area_long s
 
   -- a row that was refused with the cause c: no other cause refuses it, and nothing changes
   pub record Refused (s : S) (row : List R) (c : Cause) (t : S) : Type 0 where

@@ -2,7 +2,7 @@
 ghost use Rattle.std.specs.Prelude.{◌≡◌, []};
 ghost use Rattle.store.specs.Interface.{Put};
 ghost use Rattle.sharing.specs.Remembering.{remembered, First, FoundSized};
-ghost use Rattle.sharing.specs.Sharings.{shared_rows, shared_refuses, Passed, Layered};
+ghost use Rattle.sharing.specs.Sharings.{shared_rows, shared_refuses, shared_long, Passed, Layered};
 
 use super::Sharing;
 use crate::compare::same_row;
@@ -38,7 +38,7 @@ impl<S: BlockStore> Sharing<S> {
 
     // Puts a row that is not remembered, and remembers the number that it gets.
     fn pass(&mut self, row: &[S::Reading]) -> Result<u32, Cause>
-        ensures { Passed S.BlockStore.rows S.BlockStore.refuses self.old row.now result self.new }
+        ensures { Passed S.BlockStore.rows S.BlockStore.refuses S.BlockStore.area_long self.old row.now result self.new }
     {
         let number = self.below.put(row)?;
         self.recent.note(number);
@@ -46,7 +46,7 @@ impl<S: BlockStore> Sharing<S> {
     }
 }
 
-// The layer's list and its refusals are made of the store's list and refusals one by one, so these two stand apart here.
+// The layer's list and its refusals are made of the store's list and refusals one by one, so the store's members stand apart here.
 impl<S: BlockStore> BlockStore for Sharing<S> {
     type Reading = S::Reading;
 
@@ -54,11 +54,13 @@ impl<S: BlockStore> BlockStore for Sharing<S> {
 
     ghost refuses = { shared_refuses S.BlockStore.rows S.BlockStore.refuses };
 
+    ghost area_long = { shared_long S.BlockStore.area_long };
+
     // Answers a remembered block that is the row, and passes any other row down: a match, since that way goes on with the layer itself.
     #[tactic(auto, using(crate::proofs::Finding::looked))]
     fn put(&mut self, row: &[S::Reading]) -> Result<u32, Cause>
-        ensures store { Put (shared_rows S.BlockStore.rows) (shared_refuses S.BlockStore.rows S.BlockStore.refuses) self.old row.now result self.new }
-        ensures exact { Layered S.BlockStore.rows S.BlockStore.refuses self.old row.now result self.new }
+        ensures store { Put (shared_rows S.BlockStore.rows) (shared_refuses S.BlockStore.rows S.BlockStore.refuses) (shared_long S.BlockStore.area_long) self.old row.now result self.new }
+        ensures exact { Layered S.BlockStore.rows S.BlockStore.refuses S.BlockStore.area_long self.old row.now result self.new }
     {
         match find(&self.below, &self.recent, row) {
             Some(block) => Ok(block),
