@@ -11,7 +11,7 @@ use Rattle.laid.specs.Laid.{Laid, plain}
 use Rattle.history.specs.Edits.{Item, Edit, Known, list_of, blocks_of, content_of, identities_of}
 use Rattle.history.specs.Replay.{path}
 use Rattle.history.proofs.Sound.{version_sound}
-use Rattle.nodes.specs.Walking.{AllStored}
+use Rattle.questions.specs.Storing.{AllStored}
 use Rattle.questions.specs.declared.found.Answer.{Answer}
 use Rattle.questions.specs.Readings.{in_order, row_with, rows_of, readings_of, Small, Stands as StandingTree}
 use Rattle.questions.specs.Finding.{Reads}

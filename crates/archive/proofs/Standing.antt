@@ -14,8 +14,8 @@ use Rattle.history.specs.Edits.{Content, lead as lead_content, Item, Edit, Known
 use Rattle.history.proofs.Bounds.{ids_blocks}
 use Rattle.nodes.specs.declared.node.Node.{Node}
 use Rattle.nodes.specs.Holding.{Holds, BlocksAfter, Counted, own_blocks}
-use Rattle.nodes.specs.Making.{Stored}
-use Rattle.nodes.specs.Walking.{AllStored, Ready}
+use Rattle.nodes.specs.Walking.{Ready}
+use Rattle.questions.specs.Storing.{Stored, AllStored}
 use Rattle.archive.specs.Stands.{Fair, RowsStand}
 
 module _ {R : Type 0} where

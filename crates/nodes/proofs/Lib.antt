@@ -1,5 +1,4 @@
 pub mod Tables
-pub mod Rows
 pub mod Held
 pub mod Counts
 pub mod Laying

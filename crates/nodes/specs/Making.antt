@@ -1,18 +1,10 @@
 -- A node made from a block or from its parts, and written at the next free entry. Assumes nothing.
-use Rattle.std.specs.Prelude.{◌≡◌, ℕ, ◌+◌, ◌-◌, ◌^◌, ◌<◌, ◌≤◌, List, length, take, drop, Some, None, Option}
+use Rattle.std.specs.Prelude.{◌≡◌, ℕ, ◌+◌, ◌^◌, ◌<◌, List, length, Some, None, Option}
 use Rattle.std.specs.List.{slice_get}
 use Rattle.summary.specs.Summing.{Summing, summary_of}
 use Rattle.nodes.specs.declared.node.Node.{Node}
 use Rattle.nodes.specs.declared.node.Block.{Block}
 use Rattle.nodes.specs.Holding.{Content, Grown, leaf_node, fork_node}
-
--- the row that stands in a list of rows under a block's number; the lead, which has no reading, stands in none
-abbrev pub Stored : {R : Type 0} → List (List R) → Content R → Type 0
-Stored rows c = 0 < length c.row → slice_get rows c.number ≡ Some c.row
-
--- the summary of a part of a stored row, from place a to b − 1
-abbrev pub PartSummed : {R Q : Type 0} → Summing R Q → List (List R) → ℕ → ℕ → ℕ → Q → Type 0
-PartSummed {R} s rows block a b r = (c : Content R) → Stored rows c → block ≡ c.number → a ≤ b → b ≤ length c.row → r ≡ summary_of s (take (b - a) (drop a c.row))
 
 module _ {R Q : Type 0} (s : Summing R Q) where
   -- what follows a leaf: nothing, or the node that stands at an entry

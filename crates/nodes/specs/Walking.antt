@@ -4,15 +4,8 @@ use Rattle.flexlist.specs.Building.{Plan, made}
 use Rattle.flexlist.specs.Nodes.{leaves}
 use Rattle.summary.specs.Summing.{Summing}
 use Rattle.nodes.specs.declared.node.Node.{Node}
-use Rattle.laid.specs.Laid.{Laid, last, leaf, fork, plain, root, leader, lay}
+use Rattle.laid.specs.Laid.{Laid, plain, root, leader, lay}
 use Rattle.nodes.specs.Holding.{Content, Holds, Counted, own_blocks}
-use Rattle.nodes.specs.Making.{Stored}
-
--- every block of a laid tree stands in the list of rows under its number
-abbrev pub AllStored : {R : Type 0} → List (List R) → (ℕ → Content R) → Laid → Type 0
-AllStored rows c (last e a) = Stored rows (c a)
-AllStored rows c (leaf e a t) = Stored rows (c a) × AllStored rows c t
-AllStored rows c (fork e m x y) = AllStored rows c x × AllStored rows c y
 
 module _ {R Q : Type 0} (s : Summing R Q) (c : ℕ → Content R) where
   -- the table holds the tree t, whose root is the entry `at`, below the free entries

@@ -13,7 +13,6 @@ mod table;
 mod walks;
 
 pub use edits::{write_change, write_insert, write_removal};
-pub use makers::part_summary;
 pub use node::{Block, Node, Shape};
 pub use table::{blocks_in, entry, kept_block, put, readings_in, view as view_at};
 pub use walks::Built;

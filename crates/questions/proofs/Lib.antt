@@ -4,6 +4,7 @@ pub mod Ways
 pub mod Neighbours
 pub mod Readings
 pub mod Finds
+pub mod Rows
 pub mod Stored
 pub mod Parts
 pub mod Copies

@@ -8,9 +8,8 @@ use Rattle.summary.specs.Summing.{Summing}
 use Rattle.nodes.specs.declared.node.Node.{Node}
 use Rattle.laid.specs.Laid.{Laid, last, leaf, fork, plain}
 use Rattle.nodes.specs.Holding.{Content}
-use Rattle.nodes.specs.Making.{Stored}
-use Rattle.nodes.specs.Walking.{AllStored}
-use Rattle.nodes.proofs.Rows.{stored_at, nth_there}
+use Rattle.questions.specs.Storing.{Stored, AllStored}
+use Rattle.questions.proofs.Rows.{stored_at, nth_there}
 use Rattle.questions.specs.declared.found.Found.{Found}
 use Rattle.questions.specs.Readings.{row_with, rows_of}
 use Rattle.questions.specs.Finding.{block_at, Finds, Reads}

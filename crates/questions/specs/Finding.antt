@@ -6,7 +6,7 @@ use Rattle.summary.specs.Summing.{Summing}
 use Rattle.nodes.specs.declared.node.Node.{Node}
 use Rattle.laid.specs.Laid.{Laid, plain}
 use Rattle.nodes.specs.Holding.{Content}
-use Rattle.nodes.specs.Walking.{AllStored}
+use Rattle.questions.specs.Storing.{AllStored}
 use Rattle.questions.specs.declared.found.Found.{Found}
 use Rattle.questions.specs.declared.found.Answer.{Answer}
 use Rattle.questions.specs.Readings.{row_with, rows_of, readings_of, Small, Stands}

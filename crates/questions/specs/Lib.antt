@@ -1,4 +1,5 @@
 pub mod Readings
+pub mod Storing
 pub mod Paths
 pub mod Finding
 pub mod Spans
