@@ -9,15 +9,10 @@ use Rattle.laid.specs.Laid.{Laid, last, leaf, fork}
 use Rattle.nodes.specs.Holding.{Content, node_of}
 use Rattle.nodes.specs.Views.{seen, row_in, kept_in}
 use Rattle.nodes.specs.Making.{LeafOf}
-use Rattle.nodes.specs.Walking.{Ready}
 use Rattle.nodes.proofs.Held.{view_of, from_nothing, from_last, from_followed, from_forked, held_root, seen_held}
 use Rattle.questions.specs.Readings.{Stands}
 
 module _ {R Q : Type 0} (s : Summing R Q) (c : ℕ → Content R) (table : List (Node Q)) where
-  -- what a walk that builds starts from, these walks may start from
-  pub ready_stands : (used at : ℕ) (t : Laid) → Ready s c table used at t → Stands s c table at t
-  ready_stands used at t r = record { holds = r.holds; here = r.here }
-
   -- the node at the root
   pub stands_node : (at : ℕ) (t : Laid) → Stands s c table at t → slice_get table at ≡ Some (node_of s c t)
   stands_node at t h = ap (slice_get table) (sym h.here) ∙ held_root s c table t h.holds

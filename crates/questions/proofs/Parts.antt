@@ -1,6 +1,6 @@
 -- Parts of lists, cut and written. Assumes nothing.
-use Rattle.std.proofs.Common.{◌≡◌, ℕ, suc, ◌+◌, ◌-◌, ◌<◌, ◌≤◌, min, List, ◌++◌, length, get_or, take, drop, set, sym, ap, ◌∙◌, ap₂, ⊎_elim, append_assoc, append-nil, arith, length-drop, get_or-drop, take_all, drop-drop}
-use lib.Seq.{paste, paste-zero, paste-suc, take-paste, drop-paste, take-append-le, drop-append-le, drop-append-add, take-append-add}
+use Rattle.std.proofs.Common.{◌≡◌, ℕ, ◌+◌, ◌-◌, ◌<◌, ◌≤◌, min, List, ◌++◌, length, take, drop, sym, ap, ◌∙◌, ap₂, ⊎_elim, append_assoc, append-nil, arith, length-drop, take_all, drop-drop}
+use lib.Seq.{paste, paste-zero, take-paste, drop-paste, take-append-le, drop-append-le, drop-append-add, take-append-add}
 use Rattle.std.proofs.lemmas.Bool.{cases_lt}
 use Rattle.questions.specs.Spans.{with_part}
 
@@ -9,17 +9,6 @@ module _ {A : Type 0} where
   part_none before to xs a b h =
       let none : b - a ≡ 0 = omega arith in
       paste-zero before to (drop a xs) ∙ ap (paste before to (drop a xs)) (sym none)
-
-  -- one element more
-  pub part_more : (before out : List A) (to : ℕ) (xs : List A) (a place : ℕ) (x : A) → a ≤ place → place < length xs → x ≡ get_or xs place x → to + (place - a) < length before
-      → out ≡ with_part before to xs a place → set out (to + (place - a)) x ≡ with_part before to xs a (place + 1)
-  part_more before out to xs a place x h l e f o =
-      let j : ℕ = place - a in
-      let there : a + j ≡ place = omega arith in
-      let next : suc j ≡ place + 1 - a = omega arith in
-      let item : x ≡ get_or (drop a xs) j x = e ∙ ap (λ n. get_or xs n x) (sym there) ∙ sym (get_or-drop a xs j x) in
-      let in' : j < length (drop a xs) = simp length-drop (omega arith) in
-      ap₂ (λ l y. set l (to + j) y) o item ∙ paste-suc before to (drop a xs) j x f in' ∙ ap (paste before to (drop a xs)) next
 
   -- ---- a part of two lists, one after the other, is a part of each
 
