@@ -7,7 +7,7 @@ use Rattle.std.proofs.lemmas.List.{map-append}
 use Rattle.flexlist.specs.Shape.{Block, block, Tree, last, leaf, fork, FlexList, alone, level_0, first_greatest, ExactlyOne}
 use Rattle.flexlist.specs.Nodes.{identities, Among}
 
--- the greatest level after the leader
+-- how high the highest block behind the leader is
 unfoldable pub top : Tree → ℕ
 top (last a) = 0
 top (leaf a t) = 0
@@ -77,7 +77,7 @@ flex_only (level_0 {leader = l} {b = b} {bs = bs} zs f) =
 flex_only (first_greatest {leader = l} xs j ys p h g f₁ f₂) =
     ap₂ (fork j.level) (flex_only f₁) (flex_only f₂) ∙ sym (flex_split l xs j ys p h g)
 
--- The leader, as a block of level k, and the blocks after it.
+-- All blocks of a tree, where the leader is given the level k.
 unfoldable pub cells : ℕ → Tree → List Block
 cells k (last a) = block a k ∷ []
 cells k (leaf a t) = block a k ∷ cells 0 t

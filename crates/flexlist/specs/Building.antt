@@ -118,7 +118,7 @@ to_last (last a) = end
 to_last (leaf a t) = on (to_last t)
 to_last (fork m s t) = after (to_last t)
 
--- The paths to that block and to the one before it.
+-- The path to that block, and the path to its neighbour on the left.
 unfoldable pub to_this : {t : Tree} → Gap t → Path t
 to_this (here {a} {t}) = on (to_first t)
 to_this (further g) = on (to_this g)

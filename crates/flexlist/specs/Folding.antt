@@ -2,7 +2,7 @@
 use Rattle.std.specs.Prelude.{◌≡◌, ℕ, List, [], ◌∷◌, map}
 use Rattle.flexlist.specs.Shape.{Block, Tree, last, leaf, fork, FlexList}
 
--- A lawful summary: an associative join, with an empty value that is neutral on both sides.
+-- What makes a summary lawful: three values come to the same, whichever two are joined first, and joining with the empty value changes nothing.
 pub record Lawful (A : Type 0) (empty : A) (join : A → A → A) : Type 0 where
   pub assoc : (x y z : A) → join (join x y) z ≡ join x (join y z)
   pub empty_left : (x : A) → join empty x ≡ x

@@ -2,7 +2,7 @@
 use Rattle.std.specs.Prelude.{◌≡◌, ℕ, zero, suc, ◌+◌, ◌-◌, ◌<◌, Bool, false, cond, ◌||◌, ◌⊎◌, List, [], ◌∷◌, ◌++◌, length, ◌==◌, nat_lt, slice_index}
 use Rattle.flexlist.specs.Shape.{Tree, last, leaf, fork}
 
--- The identities under a node: its leader and the blocks after it.
+-- The identities under a node, in order: the leader's, then those of the other blocks.
 abbrev pub identities : Tree → List ℕ
 identities (last a) = a ∷ []
 identities (leaf a t) = a ∷ identities t
@@ -20,7 +20,7 @@ leaves (last a) = 1
 leaves (leaf a t) = suc (leaves t)
 leaves (fork m s t) = leaves s + leaves t
 
--- A path from the root to a leaf: at a leaf it stops or goes on, at a fork it goes below or after.
+-- A way down from the root to some leaf. A leaf on it is either its end or passed by; of a fork it takes one of the two sides, below or after.
 pub data Path : Tree → Type 0 where
   end : {a : ℕ} → Path (last a)
   stop : {a : ℕ} {t : Tree} → Path (leaf a t)
@@ -36,7 +36,7 @@ nodes (on w) = suc (nodes w)
 nodes (below w) = suc (nodes w)
 nodes (after w) = suc (nodes w)
 
--- How many nodes two paths have, shared nodes counted once.
+-- How many nodes lie on one of two paths or on both.
 unfoldable pub nodes_of_both : {t : Tree} → Path t → Path t → ℕ
 nodes_of_both end end = 1
 nodes_of_both stop stop = 1
@@ -58,7 +58,7 @@ abbrev pub Among : {A : Type 0} → A → List A → Type 0
 Among x [] = ⊥
 Among x (y ∷ ys) = (x ≡ y) ⊎ Among x ys
 
--- The path to the block of identity x: at a fork it goes to the side that has the block.
+-- The path to the block of identity x: of a fork, only one side has it.
 unfoldable pub to_block : ℕ → (t : Tree) → Path t
 to_block x (last a) = end
 to_block x (leaf a t) = cond (x == a) stop (on (to_block x t))

@@ -1,4 +1,4 @@
--- The shape of a version: which tree is the FlexList of a stretch.
+-- Which tree is the FlexList of a stretch.
 use Rattle.std.specs.Prelude.{◌≡◌, ℕ, ◌<◌, ◌≤◌, List, [], ◌∷◌, ◌++◌}
 use Rattle.std.specs.List.{AllByRecursion}
 
@@ -10,14 +10,14 @@ pub record Block : Type 0 where
 abbrev pub block : ℕ → ℕ → Block
 block a k = record { identity = a; level = k }
 
--- A tree of leaves and forks: a leaf with nothing after it, a leaf followed by a tree, a fork of some level with what is below and after it.
+-- A tree of leaves and forks. A leaf ends it or is followed by a tree; a fork has a level and two trees, one below it and one after it.
 pub data Tree : Type 0 where
   last : ℕ → Tree
   leaf : ℕ → Tree → Tree
   fork : ℕ → Tree → Tree → Tree
 
--- A stretch is a leader and the blocks after it; `FlexList leader blocks tree` says that the tree is its FlexList, by one rule for each case:
--- a leader alone; every level after the leader 0; j the first block that has the greatest level, which is above 0.
+-- `FlexList leader blocks tree`: the tree is the FlexList of the stretch that has this leader and then these blocks. There are three cases: no
+-- block; blocks of level 0 only; and else the stretch is parted in front of j, the first of its highest blocks.
 pub data FlexList : ℕ → List Block → Tree → Type 0 where
   alone : {leader : ℕ} → FlexList leader [] (last leader)
   level_0 : {leader : ℕ} {b : Block} {bs : List Block} {t : Tree} →

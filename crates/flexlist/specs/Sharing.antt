@@ -3,7 +3,7 @@ use Rattle.std.specs.Prelude.{◌≡◌, ℕ, suc, ◌+◌, ◌<◌, ◌≤◌, 
 use Rattle.flexlist.specs.Shape.{Block, Tree, FlexList}
 use Rattle.flexlist.specs.Nodes.{identities, stretches, nodes, nodes_of_both, to_place, Among}
 
--- Whether two stretches have the same leader and blocks.
+-- Whether two stretches are one, from the leader to the last block.
 abbrev pub same : List ℕ → List ℕ → Bool
 same [] [] = true
 same [] (y ∷ ys) = false
@@ -20,7 +20,7 @@ unfoldable pub missing : List (List ℕ) → List (List ℕ) → ℕ
 missing base [] = 0
 missing base (x ∷ xs) = cond (one_of x base) 0 1 + missing base xs
 
--- A node whose stretch the base has is the base's; every other node of the new tree is written once.
+-- How many nodes of the new tree are written: those whose stretch no node of the base has. For the others the base's nodes serve.
 unfoldable pub written : Tree → Tree → ℕ
 written base new = missing (stretches base) (stretches new)
 
@@ -39,7 +39,7 @@ ChangeBound =
     c.level ≡ b.level → (Among c.identity (identities base) → ⊥) →
     written base new ≡ nodes (to_place base (suc (length xs)))
 
--- A block taken out writes fewer nodes than the two paths, to it and to the one before it, have together.
+-- A block taken out writes fewer nodes than lie on its path and on that of its left neighbour together.
 abbrev pub RemovalBound : Type 0
 RemovalBound =
     (leader : ℕ) (xs ys : List Block) (b : Block) (base new : Tree) →

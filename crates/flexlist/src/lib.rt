@@ -1,5 +1,5 @@
-// The FlexList as mathematics. A version is a list of blocks, each with an identity and a level; its FlexList is a tree that
-// shares nodes with the trees of other versions. Each function here carries one theorem about that shape and costs nothing to call.
+// The FlexList as mathematics: which tree the blocks of a version make by their levels, and which of its nodes another version has too.
+// Each function here carries one theorem about that and costs nothing to call.
 #![tactic(auto)]
 
 ghost use Rattle.flexlist.specs.Shape.{ExactlyOne};
@@ -10,88 +10,62 @@ ghost use Rattle.flexlist.specs.Folding.{Folding};
 ghost use Rattle.flexlist.specs.Values.{ShapeValues};
 
 // Every stretch has exactly one FlexList, whatever the levels.
-pub fn exactly_one() -> u8
+pub fn exactly_one()
     ensures { ExactlyOne }
-{
-    0
-}
+{}
 
 // Each node has a stretch of its own.
-pub fn own_stretches() -> u8
+pub fn own_stretches()
     ensures { OwnStretches }
-{
-    0
-}
+{}
 
 // Places and paths are one to one.
-pub fn places_and_paths() -> u8
+pub fn places_and_paths()
     ensures { PlacesAndPaths }
-{
-    0
-}
+{}
 
-// The path that goes to the side that has a block is the path found by counting.
-pub fn same_path() -> u8
+// Looking for a block and counting up to it lead down one path.
+pub fn same_path()
     ensures { SamePath }
-{
-    0
-}
+{}
 
 // The nodes of a path are those that have its block, the nodes of two paths those that have one or the other.
-pub fn paths_have_nodes() -> u8
+pub fn paths_have_nodes()
     ensures { PathsHaveNodes }
-{
-    0
-}
+{}
 
 // What an edit writes, against the paths that it takes.
-pub fn insert_bound() -> u8
+pub fn insert_bound()
     ensures { InsertBound }
-{
-    0
-}
+{}
 
-pub fn change_bound() -> u8
+pub fn change_bound()
     ensures { ChangeBound }
-{
-    0
-}
+{}
 
-pub fn removal_bound() -> u8
+pub fn removal_bound()
     ensures { RemovalBound }
-{
-    0
-}
+{}
 
 // What a sharing edit builds: the FlexList of the edited list, from exactly the nodes that the sharing rule has it write.
-pub fn insert_builds() -> u8
+pub fn insert_builds()
     ensures { InsertBuilds }
-{
-    0
-}
+{}
 
-pub fn change_builds() -> u8
+pub fn change_builds()
     ensures { ChangeBuilds }
-{
-    0
-}
+{}
 
-pub fn removal_builds() -> u8
+pub fn removal_builds()
     ensures { RemovalBuilds }
-{
-    0
-}
+{}
 
 // No grouping changes a summary.
-pub fn fold_along<S>() -> u8
+pub fn fold_along<S>()
     ensures { Folding S }
-{
-    0
-}
+{}
 
 // Worked values of the rules.
-pub fn shape_values() -> u8
+pub fn shape_values()
     ensures { ShapeValues }
-{
-    0
-}
+{}

@@ -1,4 +1,4 @@
--- Each version's list is its own chain of edits done on the empty version. Assumes nothing.
+-- The edits of a version's chain, done anew on the empty version, give its list. Assumes nothing.
 use Rattle.std.proofs.Common.{◌≡◌, ℕ, zero, suc, ◌<◌, Bool, true, false, eqb, leb, List, [], ◌∷◌, ◌++◌, length, Some, unwrap_or, sym, refl, ap, ◌∙◌, arith, eqb-true, leb-false, leb-true}
 use borrow.Author.Tests.{eqb-false}
 use Rattle.std.specs.List.{slice_get}

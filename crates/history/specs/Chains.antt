@@ -1,4 +1,4 @@
--- A version's own chain of edits, done on the empty version. Assumes nothing.
+-- The edits that led to a version, done anew on the empty one. Assumes nothing.
 use Rattle.std.specs.Prelude.{◌≡◌, ℕ, suc, cond, List, [], ◌∷◌, length, ◌==◌}
 use Rattle.history.specs.Edits.{Item, Edit, base_of, done, list_of}
 
@@ -14,6 +14,6 @@ module _ {R : Type 0} where
   replayed [] = []
   replayed (x ∷ xs) = done x.0 x.1 (replayed xs)
 
--- each version's list is its own chain of edits done on the empty version
+-- the edits of a version's chain, done on the empty version, give the version's list
 abbrev pub ChainsReplayed : Type 0 → Type 0
 ChainsReplayed R = (es : List (Edit R)) (v : ℕ) → list_of es v ≡ replayed (chain_of es v)

@@ -47,7 +47,7 @@ module _ {R : Type 0} where
   first_changed n c [] = []
   first_changed n c (x ∷ xs) = record { identity = n; level = x.level; content = c } ∷ xs
 
-  -- an edit done on its base's list, where n is the identity of a block that it makes
+  -- what an edit makes of its base's list, where n is the identity of a block that it brings
   abbrev pub done : ℕ → Edit R → List (Item R) → List (Item R)
   done n (insert base place level content) xs = take place xs ++ (record { identity = n; level = level; content = content } ∷ drop place xs)
   done n (change base place content) xs = take place xs ++ first_changed n content (drop place xs)

@@ -15,7 +15,7 @@ module _ {R : Type 0} where
   unfoldable pub path : List (Item R) → ℕ → ℕ
   path xs p = nodes (to_place (shape xs) p)
 
-  -- the nodes on the paths to block i and to the one before it, shared ones once
+  -- how many nodes lie on the path to block i, on that to its left neighbour, or on both
   unfoldable pub two_paths : List (Item R) → ℕ → ℕ
   two_paths xs i = nodes_of_both (to_place (shape xs) i) (to_place (shape xs) (suc i))
 
@@ -38,7 +38,7 @@ module _ {R : Type 0} where
   InPlace es (change base place content) = place < length (list_of es base)
   InPlace es (removal base place) = place < length (list_of es base)
 
-  -- an insert writes at most two nodes more than its path has, a change exactly as many, a removal fewer than its two paths
+  -- how many nodes an edit writes: two beyond its path at most, if it is an insert; its path, if it is a change; less than its two paths, if it is a removal
   abbrev pub WithinBound : List (Edit R) → Edit R → Type 0
   WithinBound es (insert base place level content) = written_by es (insert base place level content) ≤ path (list_of es base) place + 2
   WithinBound es (change base place content) = written_by es (change base place content) ≡ path (list_of es base) (suc place)

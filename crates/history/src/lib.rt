@@ -6,22 +6,16 @@ ghost use Rattle.history.specs.Edits.{HistoriesSound};
 ghost use Rattle.history.specs.Replay.{EditsBounded};
 
 // After any history there is one version more than edits, and in each version every block has an identity of its own that holds its row.
-pub fn histories_sound<R>() -> u8
+pub fn histories_sound<R>()
     ensures { HistoriesSound R }
-{
-    0
-}
+{}
 
 // What an edit writes, against the paths that it takes, after any history.
-pub fn edits_bounded<R>() -> u8
+pub fn edits_bounded<R>()
     ensures { EditsBounded R }
-{
-    0
-}
+{}
 
-// Each version's list is its own chain of edits, its base's chain and then its edit, done on the empty version.
-pub fn chains_replayed<R>() -> u8
+// Who does the edits of a version's chain anew, on the empty version and one after another, gets the version's list.
+pub fn chains_replayed<R>()
     ensures { ChainsReplayed R }
-{
-    0
-}
+{}

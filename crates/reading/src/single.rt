@@ -1,4 +1,4 @@
-// A single float, held as its 32 bits; of the patterns that are not a number only one can be held.
+// A single float by its pattern of bits. Of the patterns that are not a number, the type holds one.
 ghost use Rattle.std.specs.Prelude.{◌≡◌, ◌^◌, ◌<◌, true};
 ghost use Rattle.reading.specs.Patterns.{canonical};
 

@@ -6,7 +6,7 @@ use Rattle.flexlist.specs.Values.{ShapeValues}
 pub record WorkedValues : Type 0 where
   -- the ranks of 1.0, −1.0 and +infinity, and that it is present
   pub ranks : RankValues
-  -- the peak of missing, 10, 10, and the swing of 3, missing, −4, 1
+  -- a peak after a missing count, and a swing across one
   pub summaries : SummaryValues
   -- the FlexLists of short lists of levels, and what an insert and two removals write
   pub shapes : ShapeValues
