@@ -5,13 +5,12 @@ ghost use Rattle.piles.specs.Piles.{Piled};
 
 use store::BlockStore;
 
-// Layers to any depth over any store: the pile's list is the store's, and its area too, and a row is refused exactly where no layer remembers
-// it and the store refuses it. What the store keeps stands apart, member by member, as each layer takes it.
-pub fn pile_meaning<S: BlockStore>() -> u8
-    ensures { Piled S.BlockStore.rows S.BlockStore.refuses S.BlockStore.area_long }
-{
-    0
-}
+// Layers to any depth over any store: the pile's list is the store's, and its area too; a row is refused exactly where no layer remembers it and the store
+// refuses it; and a put puts into the store once, or, where a layer remembers the row, not at all. What the store keeps stands apart, member by member, as
+// each layer takes it.
+pub fn pile_meaning<S: BlockStore>()
+    ensures { Piled S.BlockStore.rows S.BlockStore.refuses S.BlockStore.puts S.BlockStore.area_long }
+{}
 
 #[cfg(test)]
 mod tests {

@@ -1,7 +1,8 @@
 -- Looking through remembered numbers, newest first. Assumes nothing.
-use Rattle.std.proofs.Common.{◌≡◌, ℕ, zero, suc, ◌+◌, List, [], ◌∷◌, drop, Some, None, Option, sym, refl, ap, ◌∙◌, inl, inr, add-one, arith}
+use Rattle.std.proofs.Common.{Bool, true, false, cond, subst, ◌≡◌, ℕ, zero, suc, ◌+◌, List, [], ◌∷◌, drop, Some, None, Option, sym, refl, ap, ◌∙◌, inl, inr, add-one, arith}
 use Rattle.std.specs.List.{slice_get}
-use Rattle.sharing.specs.Remembering.{First, Unknown}
+use Rattle.sharing.specs.declared.recent.Recent.{Recent}
+use Rattle.sharing.specs.Remembering.{First, remembered, candidates, is_sized}
 
 module _ {R : Type 0} (rows : List (List R)) (row : List R) where
   pub first_none : (bs : List ℕ) (age : ℕ) → None ≡ slice_get bs age → First rows row (drop age bs) None
@@ -23,21 +24,10 @@ module _ {R : Type 0} (rows : List (List R)) (row : List R) where
   pub first_later : (bs : List ℕ) (age b : ℕ) (r : Option ℕ) → Some b ≡ slice_get bs age → (slice_get rows b ≡ Some row → ⊥) → First rows row (drop (age + 1) bs) r → First rows row (drop age bs) r
   first_later bs age b r h ne f = later bs age b r h ne (rw add-one at f)
 
-  -- what was found is the row; where nothing was, no number has it
-  pub found_row : (bs : List ℕ) (n : ℕ) → First rows row bs (Some n) → slice_get rows n ≡ Some row
-  found_row [] n f = let z : ◌≡◌ {A = ℕ} 0 1 = cc in absurd (omega arith)
-  found_row (b ∷ bs) n (inl (e, s)) = let same : n ≡ b = cc in ap (slice_get rows) same ∙ e
-  found_row (b ∷ bs) n (inr (ne, f)) = found_row bs n f
+-- by the row's length: none is found where it may be no block, and else what is found among all numbers
+pub first_unsized : {R : Type 0} (rows : List (List R)) (row : List R) (r : Recent) → is_sized row ≡ false → First rows row (candidates row r) None
+first_unsized rows row r e = subst (λ b. First rows row (cond b (remembered r) []) None) (sym e) refl
 
-  pub none_known : (bs : List ℕ) → First rows row bs None → Unknown rows row bs
-  none_known [] f = tt
-  none_known (b ∷ bs) (inl (e, s)) = let z : ◌≡◌ {A = ℕ} 0 1 = cc in absurd (omega arith)
-  none_known (b ∷ bs) (inr (ne, f)) = (ne, none_known bs f)
-
-  pub known : (bs : List ℕ) (n : ℕ) → First rows row bs (Some n) → Unknown rows row bs → ⊥
-  known [] n f u = let z : ◌≡◌ {A = ℕ} 0 1 = cc in omega arith
-  known (b ∷ bs) n (inl (e, s)) u = u.0 e
-  known (b ∷ bs) n (inr (ne, f)) u = known bs n f u.1
-
--- what a layer that looked through its numbers knows
-pub ruleset looked = (found_row, none_known, known)
+pub first_sized : {R : Type 0} (rows : List (List R)) (row : List R) (r : Recent) (o : Option ℕ) (b : Bool) → b ≡ is_sized row → b ≡ true → First rows row (remembered r) o → First rows row (candidates row r) o
+first_sized rows row r o true e h f = subst (λ b. First rows row (cond b (remembered r) []) o) e f
+first_sized rows row r o false e h f = cc

@@ -1,2 +1,3 @@
 pub mod Remembering
 pub mod Sharings
+pub mod Lawful

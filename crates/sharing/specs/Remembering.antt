@@ -1,5 +1,5 @@
 -- The table of remembered block numbers, newest first, and the first of them that equals a row. Assumes nothing.
-use Rattle.std.specs.Prelude.{◌≡◌, ℕ, ◌≤◌, ◌⊎◌, List, [], ◌∷◌, ◌++◌, map, reverse, length, take, drop, Some, None, Option, ◌≢◌}
+use Rattle.std.specs.Prelude.{◌≡◌, ℕ, ◌⊎◌, Bool, cond, ◌&&◌, nat_le, List, [], ◌∷◌, ◌++◌, map, reverse, length, take, drop, Some, None, Option, ◌≢◌}
 use Rattle.std.specs.List.{slice_get}
 use Rattle.sharing.specs.declared.recent.Entry.{Entry}
 use Rattle.sharing.specs.declared.recent.Recent.{Recent}
@@ -22,11 +22,10 @@ abbrev pub Unknown : {R : Type 0} → List (List R) → List R → List ℕ → 
 Unknown rows row [] = Unit {0}
 Unknown rows row (b ∷ bs) = (slice_get rows b ≢ Some row) × Unknown rows row bs
 
--- a row that may be a block
-abbrev pub Sized : {R : Type 0} → List R → Type 0
-Sized row = (1 ≤ length row) × (length row ≤ 1024)
+-- may a row be a block, by its length?
+abbrev pub is_sized : {R : Type 0} → List R → Bool
+is_sized row = nat_le 1 (length row) && nat_le (length row) 1024
 
--- a row that was found may be a block
-abbrev pub FoundSized : {R : Type 0} → List R → Option ℕ → Type 0
-FoundSized row None = Unit {0}
-FoundSized row (Some n) = Sized row
+-- the numbers that a row is compared with, newest first: all that are remembered, and none where the row may be no block
+abbrev pub candidates : {R : Type 0} → List R → Recent → List ℕ
+candidates row r = cond (is_sized row) (remembered r) []

@@ -1,4 +1,4 @@
-// The block numbers of the last 32 rows that went below, in a table of records that is written round and round.
+// Under which numbers rows went below, for the latest 32 of them, in a table of records that is written round and round.
 // A table of records with its own methods, and no ring of the library: that form is the project's rule.
 ghost use Rattle.std.specs.Prelude.{◌≡◌, ◌<◌, ◌≤◌, length};
 

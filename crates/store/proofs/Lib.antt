@@ -1,5 +1,5 @@
 pub mod Answering
 pub mod Cells
 pub mod Cutting
-pub mod Refusing
 pub mod Filling
+pub mod Same

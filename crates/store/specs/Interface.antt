@@ -1,4 +1,5 @@
--- What a block store means, a list of rows numbered from 0, what refuses a row now and how long its area is, and what its calls answer and leave. Assumes nothing.
+-- What its calls answer and leave is said of a block store by its list of rows, which counts from 0, by what refuses a row now, and by how long its area is.
+-- Assumes nothing.
 use Rattle.std.specs.Prelude.{◌≡◌, ℕ, ◌+◌, ◌≤◌, List, [], ◌∷◌, ◌++◌, length, take, drop, cond, nat_le, Some, None, Ok, Err, Option, Result}
 use Rattle.std.specs.List.{slice_get}
 use Rattle.store.specs.declared.cause.Cause.{Cause}
@@ -17,10 +18,14 @@ module _ {S R : Type 0} (rows : S → List (List R)) (refuses : S → List R →
     pub placed : Placed (rows s) row n (rows t)
     pub same_area : area_long t ≡ area_long s
 
-  -- a row that was refused with the cause c: no other cause refuses it, and nothing changes
-  pub record Refused (s : S) (row : List R) (c : Cause) (t : S) : Type 0 where
+  -- this cause refuses the row, and no other does
+  pub record OneCause (s : S) (row : List R) (c : Cause) : Type 0 where
     pub cause : refuses s row c
     pub only : (d : Cause) → refuses s row d → d ≡ c
+
+  -- a row that was refused with the cause c: nothing changes
+  pub record Refused (s : S) (row : List R) (c : Cause) (t : S) : Type 0 where
+    pub one : OneCause s row c
     pub kept : t ≡ s
 
   abbrev pub Put : S → List R → Result ℕ Cause → S → Type 0
@@ -41,8 +46,3 @@ reading_at (Some row) place = slice_get row place
 abbrev pub copied : {R : Type 0} → Option (List R) → ℕ → List R → List R
 copied None from before = before
 copied (Some row) from before = cond (nat_le (from + length before) (length row)) (take (length before) (drop from row)) before
-
--- every block has 1 to 1,024 readings
-abbrev pub Bounded : Option ℕ → Type 0
-Bounded None = Unit {0}
-Bounded (Some n) = (1 ≤ n) × (n ≤ 1024)

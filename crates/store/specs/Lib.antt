@@ -6,3 +6,5 @@ pub mod Stores
 pub mod RowStores
 pub mod FlashStores
 pub mod Keeping
+pub mod Fitting
+pub mod Lawful

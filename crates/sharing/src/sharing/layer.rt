@@ -1,7 +1,7 @@
 // The layer as a store.
 ghost use Rattle.std.specs.Prelude.{◌≡◌, []};
-ghost use Rattle.store.specs.Interface.{Put};
-ghost use Rattle.sharing.specs.Remembering.{remembered, First, FoundSized};
+ghost use Rattle.sharing.specs.Lawful.{layer_lawful};
+ghost use Rattle.sharing.specs.Remembering.{remembered, candidates, is_sized, First};
 ghost use Rattle.sharing.specs.Sharings.{shared_rows, shared_refuses, shared_long, Passed, Layered};
 
 use super::Sharing;
@@ -10,11 +10,20 @@ use crate::recent::Recent;
 use reading::Reading;
 use store::{BlockStore, Cause};
 
+// May a row be a block, by its length? No other is looked for: what a store holds from before need not keep the limits.
+fn is_sized<R>(row: &[R]) -> bool
+    ensures { result ≡ is_sized row.now }
+{
+    1 <= row.len() && row.len() <= 1024
+}
+
 // The newest remembered block that is the row.
 fn find<S: BlockStore>(store: &S, recent: &Recent, row: &[S::Reading]) -> Option<u32>
-    ensures first { First (S.BlockStore.rows store.now) row.now (remembered recent.now) result }
-    ensures sized { FoundSized row.now result }
+    ensures { First (S.BlockStore.rows store.now) row.now (candidates row.now recent.now) result }
 {
+    if !is_sized(row) {
+        return None;
+    }
     for age in 0..32 {
         let block = recent.newest(age)?;
         if same_row(store, block, row) {
@@ -36,9 +45,17 @@ impl<S: BlockStore> Sharing<S> {
         }
     }
 
+    // The store below, with all that was put into it; what the layer remembered is gone.
+    pub fn into_below(self) -> S
+        ensures { result ≡ self.below }
+    {
+        let Sharing { below, recent: _ } = self;
+        below
+    }
+
     // Puts a row that is not remembered, and remembers the number that it gets.
     fn pass(&mut self, row: &[S::Reading]) -> Result<u32, Cause>
-        ensures { Passed S.BlockStore.rows S.BlockStore.refuses S.BlockStore.area_long self.old row.now result self.new }
+        ensures { Passed S.BlockStore.rows S.BlockStore.puts self.old row.now result self.new }
     {
         let number = self.below.put(row)?;
         self.recent.note(number);
@@ -56,12 +73,17 @@ impl<S: BlockStore> BlockStore for Sharing<S> {
 
     ghost area_long = { shared_long S.BlockStore.area_long };
 
+    ghost puts = { Layered S.BlockStore.rows S.BlockStore.puts };
+
+    ghost lawful = { layer_lawful
+        S.BlockStore.rows
+        S.BlockStore.refuses
+        S.BlockStore.area_long
+        S.BlockStore.puts
+        S.lawful };
+
     // Answers a remembered block that is the row, and passes any other row down: a match, since that way goes on with the layer itself.
-    #[tactic(auto, using(crate::proofs::Finding::looked))]
-    fn put(&mut self, row: &[S::Reading]) -> Result<u32, Cause>
-        ensures store { Put (shared_rows S.BlockStore.rows) (shared_refuses S.BlockStore.rows S.BlockStore.refuses) (shared_long S.BlockStore.area_long) self.old row.now result self.new }
-        ensures exact { Layered S.BlockStore.rows S.BlockStore.refuses S.BlockStore.area_long self.old row.now result self.new }
-    {
+    fn put(&mut self, row: &[S::Reading]) -> Result<u32, Cause> {
         match find(&self.below, &self.recent, row) {
             Some(block) => Ok(block),
             None => self.pass(row),
