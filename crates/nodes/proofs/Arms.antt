@@ -14,7 +14,7 @@ use Rattle.nodes.specs.Walking.{Ready, CountedTo, Walked}
 use Rattle.nodes.proofs.Counts.{at_nothing, at_last, at_followed, at_forked, to_stop, to_next, to_below, to_after}
 use Rattle.nodes.proofs.Laying.{Laying}
 
-module _ {R Q : Type 0} (s : Summing R Q) (c : ℕ → Content R) (edit : Laid → ℕ → Plan Laid) {before after : List (Node Q)} {used at upto r next : ℕ} where
+module _ {R Q : Type 0} (s : Summing R Q) (c : ℕ → Content R) (edit : Laid → ℕ → Plan Laid) {before after : List (Node Q)} {used at r next : ℕ} (upto : ℕ) where
   pub walk_nothing : None ≡ seen at (slice_get before at) → Walked s c edit before used at upto after r next
   walk_nothing see t place h i room = absurd (at_nothing s c t see h)
 

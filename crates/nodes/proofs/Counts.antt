@@ -5,8 +5,8 @@ use Rattle.flexlist.specs.Nodes.{leaves}
 use Rattle.summary.specs.Summing.{Summing}
 use Rattle.nodes.specs.declared.node.Node.{Node}
 use Rattle.nodes.specs.declared.node.Shape.TheVariants.{Leaf, Fork}
-use Rattle.laid.specs.Laid.{Laid, last, leaf, fork, plain}
-use Rattle.nodes.specs.Holding.{Content, node_of}
+use Rattle.laid.specs.Laid.{Laid, last, leaf, fork, plain, leader}
+use Rattle.nodes.specs.Holding.{Content, node_of, own_blocks}
 use Rattle.nodes.specs.Views.{seen, blocks_in, kept_in}
 use Rattle.nodes.specs.Making.{LeafOf}
 use Rattle.nodes.specs.Walking.{Ready, CountedTo}
@@ -50,15 +50,16 @@ module _ {R Q : Type 0} (s : Summing R Q) (c : ℕ → Content R) {table : List 
       (omega arith, (omega arith, omega arith))
 
   -- how many blocks the root counts, against the leaves
-  pub count_of : {place upto blocks : ℕ} (t : Laid) → blocks ≡ blocks_in (slice_get table at) → Ready s c table used at t → CountedTo c t place upto
-      → (place < leaves (plain t)) × (blocks + place + 1 ≡ leaves (plain t) + upto)
-  count_of t b h i = let count = blocks_held s c table at t h.holds h.here h.counted in let low = i.0 in let up = i.1 in (low, omega arith)
+  pub count_of : (place upto : ℕ) {blocks : ℕ} (t : Laid) → blocks ≡ blocks_in (slice_get table at) → Ready s c table used at t → CountedTo c t place upto
+      → (place < leaves (plain t)) × (blocks + 1 ≡ leaves (plain t) + own_blocks (length (c (leader t)).row)) × (place ≡ upto - own_blocks (length (c (leader t)).row))
+  count_of place upto t b h i = let count = blocks_held s c table at t h.holds h.here h.counted in (i.0, omega arith, i.1)
 
   -- below a fork, or after it
   pub to_below : {e m j blocks place upto : ℕ} {x y : Laid} → blocks ≡ blocks_in (slice_get table j) → upto ≤ blocks → Ready s c table used j x → Ready s c table used at (fork e m x y) → CountedTo c (fork e m x y) place upto
       → (place < leaves (plain x)) × CountedTo c x place upto
   to_below {j = j} {x = x} b u h g i =
       let count = blocks_held s c table j x h.holds h.here h.counted in
+      let some = leaves_some (plain x) in
       let up = i.1 in
       (omega arith, (omega arith, omega arith))
 

@@ -51,42 +51,44 @@ pub right_after_is : (n e m : ℕ) (x y : Laid) (p : ℕ) → leaves (plain x) �
 unfolding right_at
 right_after_is n e m x y p h = cond-false _ _ _ (le-ltb p (leaves (plain x)) h)
 
-module _ {R Q : Type 0} (s : Summing R Q) (before : List (Node Q)) {used at upto : ℕ} where
+module _ {R Q : Type 0} (s : Summing R Q) (before : List (Node Q)) {used at : ℕ} (upto : ℕ) where
   pub left_end : {blocks : ℕ} → blocks ≡ blocks_in (slice_get before at) → blocks ≡ upto → LeftMade s before used at upto before at used
   left_end b end c t place h i =
-      let count = count_of s c t b h i in
+      let count = count_of s c place upto t b h i in
       let total = count.1 in
+      let to = count.2 in
       subst (Laying s c before used before at used) (sym (left_end_is c t place (omega arith))) (λ room. lay_kept s c t h)
 
   pub left_nothing : {after : List (Node Q)} {r next : ℕ} → None ≡ seen at (slice_get before at) → LeftMade s before used at upto after r next
-  left_nothing see c = walk_nothing s c left_at see
+  left_nothing see c = walk_nothing s c left_at upto see
 
   pub left_last : {b l : ℕ} → Some (Leaf b l None) ≡ seen at (slice_get before at) → LeftMade s before used at upto before at used
   unfolding left_at
-  left_last see c = walk_last s c left_at see (λ e a p _ h _ room. lay_kept s c (last e a) h)
+  left_last see c = walk_last s c left_at upto see (λ e a p _ h _ room. lay_kept s c (last e a) h)
 
   pub left_stop : {after : List (Node Q)} {b l k own next : ℕ} {kept : Block Q} → Some (Leaf b l (Some k)) ≡ seen at (slice_get before at) → kept ≡ kept_in s b l (slice_get before at) → own ≡ min l 1 → upto ≤ own
       → LeafWritten s before used kept None after next → LeftMade s before used at upto after used next
   unfolding left_at
-  left_stop see z o u w c = walk_stop s c left_at see o u (λ e a y old _ _ room. lay_last s c a w (as_kept s c z old) room)
+  left_stop see z o u w c = walk_stop s c left_at upto see o u (λ e a y old _ _ room. lay_last s c a w (as_kept s c z old) room)
 
   pub left_on : {mid after : List (Node Q)} {blocks b l k own r v next : ℕ} {kept : Block Q} → blocks ≡ blocks_in (slice_get before at) → (blocks ≡ upto → ⊥) → Some (Leaf b l (Some k)) ≡ seen at (slice_get before at) → kept ≡ kept_in s b l (slice_get before at) → own ≡ min l 1 → own < upto
       → LeftMade s before used k (upto - own) mid r v → length mid ≡ length before
       → LeafWritten s mid v kept (Some r) after next → LeftMade s before used at upto after v next
   unfolding leaves
   left_on {mid} {after} {v = v} {next = next} b not_end see z o u rest size w c =
-      walk_on s c left_at see o u
+      walk_on s c left_at upto see o u
       (λ e a y p old ready h i j.
-      let count = count_of s c (leaf e a y) b h i in
+      let count = count_of s c (suc p) upto (leaf e a y) b h i in
       let low = count.0 in
       let total = count.1 in
+      let to = count.2 in
       subst (Laying s c before used after v next) (sym (left_on_is e a y p (omega arith)))
       (λ room. lay_leaf s c before a (left_at y p) (rest c y p ready j (room_leaf s c _ room)) w (as_kept s c z old) size room))
 
   pub left_below : {after : List (Node Q)} {m j k blocks r next : ℕ} → Some (Fork m j k) ≡ seen at (slice_get before at) → blocks ≡ blocks_in (slice_get before j) → upto ≤ blocks
       → LeftMade s before used j upto after r next → LeftMade s before used at upto after r next
   left_below {after} {m} {r = r} {next = next} see b u part c =
-      walk_below s c left_at see b u
+      walk_below s c left_at upto see b u
       (λ e x y p low below behind _ _ i. subst (Laying s c before used after r next) (sym (left_below_is e m x y p low)) (part c x p below i))
 
   pub left_after : {mid after : List (Node Q)} {m j k blocks all r v next : ℕ} → all ≡ blocks_in (slice_get before at) → (all ≡ upto → ⊥) → Some (Fork m j k) ≡ seen at (slice_get before at) → blocks ≡ blocks_in (slice_get before j) → blocks < upto
@@ -94,38 +96,39 @@ module _ {R Q : Type 0} (s : Summing R Q) (before : List (Node Q)) {used at upto
       → ForkWritten s mid v m j r after next → LeftMade s before used at upto after v next
   unfolding leaves
   left_after {mid} {after} {m} {v = v} {next = next} a not_end see b u grown part size w c =
-      walk_after s c left_at see b u
+      walk_after s c left_at upto see b u
       (λ e x y p high below behind h i j.
-      let count = count_of s c (fork e m x y) a h i in
+      let count = count_of s c p upto (fork e m x y) a h i in
       let low = count.0 in
       let total = count.1 in
+      let to = count.2 in
       subst (Laying s c before used after v next) (sym (left_after_is e m x y p high (omega arith)))
       (λ room. lay_fork s c before m (keep x) (left_at y (p - leaves (plain x))) (lay_kept s c x below) grown (part c y _ behind j (room_beside s c x _ room)) w size room))
 
-module _ {R Q : Type 0} (s : Summing R Q) (before : List (Node Q)) {used at upto : ℕ} {block : Block Q} where
+module _ {R Q : Type 0} (s : Summing R Q) (before : List (Node Q)) {used at : ℕ} (upto : ℕ) {block : Block Q} where
   pub right_nothing : {after : List (Node Q)} {r next : ℕ} → None ≡ seen at (slice_get before at) → RightMade s before used at upto block after r next
-  right_nothing see c n k = walk_nothing s c (right_at n) see
+  right_nothing see c n k = walk_nothing s c (right_at n) upto see
 
   pub right_last : {after : List (Node Q)} {b l next : ℕ} → Some (Leaf b l None) ≡ seen at (slice_get before at)
       → LeafWritten s before used block None after next → RightMade s before used at upto block after used next
   unfolding right_at
-  right_last see w c n k = walk_last s c (right_at n) see (λ e a p _ _ _ room. lay_last s c n w k room)
+  right_last see w c n k = walk_last s c (right_at n) upto see (λ e a p _ _ _ room. lay_last s c n w k room)
 
   pub right_stop : {after : List (Node Q)} {b l k own next : ℕ} → Some (Leaf b l (Some k)) ≡ seen at (slice_get before at) → own ≡ min l 1 → upto ≤ own
       → LeafWritten s before used block (Some k) after next → RightMade s before used at upto block after used next
   unfolding right_at
-  right_stop see o u w c n k = walk_stop s c (right_at n) see o u (λ e a y _ ready _. lay_leaf s c before n (keep y) (lay_kept s c y ready) w k refl)
+  right_stop see o u w c n k = walk_stop s c (right_at n) upto see o u (λ e a y _ ready _. lay_leaf s c before n (keep y) (lay_kept s c y ready) w k refl)
 
   pub right_on : {after : List (Node Q)} {b l k own r next : ℕ} → Some (Leaf b l (Some k)) ≡ seen at (slice_get before at) → own ≡ min l 1 → own < upto
       → RightMade s before used k (upto - own) block after r next → RightMade s before used at upto block after r next
   unfolding right_at
-  right_on see o u rest c n k = walk_on s c (right_at n) see o u (λ e a y p _ ready _ _ i. rest c n k y p ready i)
+  right_on see o u rest c n k = walk_on s c (right_at n) upto see o u (λ e a y p _ ready _ _ i. rest c n k y p ready i)
 
   pub right_below : {mid after : List (Node Q)} {m j k blocks r v next : ℕ} → Some (Fork m j k) ≡ seen at (slice_get before at) → blocks ≡ blocks_in (slice_get before j) → upto ≤ blocks
       → Grown before used mid v → RightMade s before used j upto block mid r v → length mid ≡ length before
       → ForkWritten s mid v m r k after next → RightMade s before used at upto block after v next
   right_below {mid} {after} {m} {v = v} {next = next} see b u grown part size w c n k =
-      walk_below s c (right_at n) see b u
+      walk_below s c (right_at n) upto see b u
       (λ e x y p low below behind _ _ i.
       subst (Laying s c before used after v next) (sym (right_below_is n e m x y p low))
       (λ room. lay_fork s c before m (right_at n x p) (keep y) (part c n k x p below i (room_below s c _ _ room)) (grown_none mid v) (lay_kept s c y (ready_on s c y grown behind)) w size room))
@@ -133,7 +136,7 @@ module _ {R Q : Type 0} (s : Summing R Q) (before : List (Node Q)) {used at upto
   pub right_after : {after : List (Node Q)} {m j k blocks r next : ℕ} → Some (Fork m j k) ≡ seen at (slice_get before at) → blocks ≡ blocks_in (slice_get before j) → blocks < upto
       → RightMade s before used k (upto - blocks) block after r next → RightMade s before used at upto block after r next
   right_after {after} {m} {r = r} {next = next} see b u part c n k =
-      walk_after s c (right_at n) see b u
+      walk_after s c (right_at n) upto see b u
       (λ e x y p high below behind _ _ i. subst (Laying s c before used after r next) (sym (right_after_is n e m x y p high)) (part c n k y _ behind i))
 
   -- both pieces under a fork

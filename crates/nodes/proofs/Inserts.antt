@@ -58,14 +58,14 @@ pub insert_on_is : (n k e a : ℕ) (y : Laid) (p : ℕ) → k ≡ 0 → insert_a
 unfolding insert_at
 insert_on_is n k e a y p h = ap (λ i. insert_at n i (leaf e a y) (suc p)) h ∙ ap (λ i. new_leaf a (insert_at n i y p)) (sym h)
 
-module _ {R Q : Type 0} (s : Summing R Q) (before : List (Node Q)) {used at upto : ℕ} {block : Block Q} (level : ℕ) where
+module _ {R Q : Type 0} (s : Summing R Q) (before : List (Node Q)) {used at : ℕ} (upto : ℕ) {block : Block Q} (level : ℕ) where
   pub insert_nothing : {after : List (Node Q)} {r next : ℕ} → None ≡ seen at (slice_get before at) → Inserted s before used at upto block after r next level
-  insert_nothing see c n k = walk_nothing s c (insert_at n level) see
+  insert_nothing see c n k = walk_nothing s c (insert_at n level) upto see
 
   pub insert_cut_leaf : {after : List (Node Q)} {b l r next : ℕ} (j : Option ℕ) → Some (Leaf b l j) ≡ seen at (slice_get before at) → 0 < level
       → CutMade s before used at upto block after r next level → Inserted s before used at upto block after r next level
   insert_cut_leaf {after} {r = r} {next = next} None see v cut c n k t place h i =
-      walk_last s c (insert_at n level) see
+      walk_last s c (insert_at n level) upto see
       (λ e a p _ h i. subst (Laying s c before used after r next) (sym (insert_cut_last_is n level e a p v)) (cut c n k (last e a) p h i))
       t place h i
   insert_cut_leaf {after} {r = r} {next = next} (Some j) see v cut c n k t place h i =
@@ -76,20 +76,20 @@ module _ {R Q : Type 0} (s : Summing R Q) (before : List (Node Q)) {used at upto
   pub insert_cut_below : {after : List (Node Q)} {m i j blocks r next : ℕ} → Some (Fork m i j) ≡ seen at (slice_get before at) → blocks ≡ blocks_in (slice_get before i) → upto ≤ blocks → m ≤ level
       → CutMade s before used at upto block after r next level → Inserted s before used at upto block after r next level
   insert_cut_below {after} {m} {r = r} {next = next} see b u v cut c n k =
-      walk_below s c (insert_at n level) see b u
+      walk_below s c (insert_at n level) upto see b u
       (λ e x y p low _ _ h i _. subst (Laying s c before used after r next) (sym (insert_cut_below_is n level e m x y p low v)) (cut c n k (fork e m x y) p h i))
 
   pub insert_cut_after : {after : List (Node Q)} {m i j blocks r next : ℕ} → Some (Fork m i j) ≡ seen at (slice_get before at) → blocks ≡ blocks_in (slice_get before i) → blocks < upto → m < level
       → CutMade s before used at upto block after r next level → Inserted s before used at upto block after r next level
   insert_cut_after {after} {m} {r = r} {next = next} see b u v cut c n k =
-      walk_after s c (insert_at n level) see b u
+      walk_after s c (insert_at n level) upto see b u
       (λ e x y p high _ _ h i _. subst (Laying s c before used after r next) (sym (insert_cut_after_is n level e m x y p high v)) (cut c n k (fork e m x y) p h i))
 
   pub insert_last : {mid after : List (Node Q)} {b l v next : ℕ} {kept : Block Q} → Some (Leaf b l None) ≡ seen at (slice_get before at) → kept ≡ kept_in s b l (slice_get before at) → level ≡ 0
       → LeafWritten s before used block None mid v → length mid ≡ length before
       → LeafWritten s mid v kept (Some used) after next → Inserted s before used at upto block after v next level
   insert_last {mid} {after} {v = v} {next = next} see q z w size w' c n k =
-      walk_last s c (insert_at n level) see
+      walk_last s c (insert_at n level) upto see
       (λ e a p old _ _. subst (Laying s c before used after v next) (sym (insert_last_is n level e a p z))
       (λ room. lay_leaf s c before a (new_last n) (lay_last s c n w k (room_leaf s c _ room)) w' (as_kept s c q old) size room))
 
@@ -97,7 +97,7 @@ module _ {R Q : Type 0} (s : Summing R Q) (before : List (Node Q)) {used at upto
       → LeafWritten s before used block (Some j) mid v → length mid ≡ length before
       → LeafWritten s mid v kept (Some used) after next → Inserted s before used at upto block after v next level
   insert_stop {mid} {after} {v = v} {next = next} see q o u z w size w' c n k =
-      walk_stop s c (insert_at n level) see o u
+      walk_stop s c (insert_at n level) upto see o u
       (λ e a y old ready _. subst (Laying s c before used after v next) (sym (insert_stop_is n level e a y z))
       (λ room. lay_leaf s c before a (new_leaf n (keep y)) (lay_leaf s c before n (keep y) (lay_kept s c y ready) w k refl (room_leaf s c _ room)) w' (as_kept s c q old) size room))
 
@@ -105,7 +105,7 @@ module _ {R Q : Type 0} (s : Summing R Q) (before : List (Node Q)) {used at upto
       → Inserted s before used j (upto - own) block mid r v level → length mid ≡ length before
       → LeafWritten s mid v kept (Some r) after next → Inserted s before used at upto block after v next level
   insert_on {mid} {after} {v = v} {next = next} see q o u z rest size w c n k =
-      walk_on s c (insert_at n level) see o u
+      walk_on s c (insert_at n level) upto see o u
       (λ e a y p old ready _ _ i. subst (Laying s c before used after v next) (sym (insert_on_is n level e a y p z))
       (λ room. lay_leaf s c before a (insert_at n level y p) (rest c n k y p ready i (room_leaf s c _ room)) w (as_kept s c q old) size room))
 
@@ -113,7 +113,7 @@ module _ {R Q : Type 0} (s : Summing R Q) (before : List (Node Q)) {used at upto
       → Grown before used mid v → Inserted s before used i upto block mid r v level → length mid ≡ length before
       → ForkWritten s mid v m r j after next → Inserted s before used at upto block after v next level
   insert_below {mid} {after} {m} {v = v} {next = next} see b u z grown part size w c n k =
-      walk_below s c (insert_at n level) see b u
+      walk_below s c (insert_at n level) upto see b u
       (λ e x y p low below behind _ _ i.
       subst (Laying s c before used after v next) (sym (insert_below_is n level e m x y p low z))
       (λ room. lay_fork s c before m (insert_at n level x p) (keep y) (part c n k x p below i (room_below s c _ _ room)) (grown_none mid v) (lay_kept s c y (ready_on s c y grown behind)) w size room))
@@ -122,7 +122,7 @@ module _ {R Q : Type 0} (s : Summing R Q) (before : List (Node Q)) {used at upto
       → Grown before used mid v → Inserted s before used j (upto - blocks) block mid r v level → length mid ≡ length before
       → ForkWritten s mid v m i r after next → Inserted s before used at upto block after v next level
   insert_after {mid} {after} {m} {v = v} {next = next} see b u z grown part size w c n k =
-      walk_after s c (insert_at n level) see b u
+      walk_after s c (insert_at n level) upto see b u
       (λ e x y p high below behind _ _ i.
       subst (Laying s c before used after v next) (sym (insert_after_is n level e m x y p high z))
       (λ room. lay_fork s c before m (keep x) (insert_at n level y (p - leaves (plain x))) (lay_kept s c x below) grown (part c n k y _ behind i (room_beside s c x _ room)) w size room))

@@ -19,19 +19,19 @@ module _ {R Q : Type 0} (s : Summing R Q) (c : ℕ → Content R) where
   -- room for a part
   pub room_leaf : {before : List (Node Q)} {u a : ℕ} (x : Plan Laid) → Room s c before u (new_leaf a x) → Room s c before u x
   unfolding made
-  room_leaf x h = let fits = h.fits in let few = h.few in record { fits = omega arith; few = omega arith }
+  room_leaf x h = let fits = h.fits in record { fits = omega arith }
 
   pub room_below : {before : List (Node Q)} {u m : ℕ} (x y : Plan Laid) → Room s c before u (new_fork m x y) → Room s c before u x
   unfolding made
-  room_below x y h = let fits = h.fits in let few = h.few in record { fits = omega arith; few = omega arith }
+  room_below x y h = let fits = h.fits in record { fits = omega arith }
 
   pub room_after : (before : List (Node Q)) {mid : List (Node Q)} {u v m : ℕ} (x y : Plan Laid) → length mid ≡ length before → v ≡ u + made x → Room s c before u (new_fork m x y) → Room s c mid v y
   unfolding made
-  room_after before x y size up h = let fits = h.fits in let few = h.few in record { fits = omega arith; few = omega arith }
+  room_after before x y size up h = let fits = h.fits in record { fits = omega arith }
 
   pub room_beside : {before : List (Node Q)} {u m : ℕ} (x : Laid) (y : Plan Laid) → Room s c before u (new_fork m (keep x) y) → Room s c before u y
   unfolding made
-  room_beside x y h = let fits = h.fits in let few = h.few in record { fits = omega arith; few = omega arith }
+  room_beside x y h = let fits = h.fits in record { fits = omega arith }
 
   -- a piece that is kept
   pub lay_kept : {table : List (Node Q)} {u at : ℕ} (t : Laid) → Ready s c table u at t → LaidOut s c u (keep t) table at u
@@ -48,8 +48,7 @@ module _ {R Q : Type 0} (s : Summing R Q) (c : ℕ → Content R) where
   unfolding lay made node_of
   lay_last n w k room =
       let fits = room.fits in
-      let few = room.few in
-      let there = w.there (omega arith) (omega arith) (c n) k None tt in
+      let there = w.there (omega arith) (c n) k None tt in
       let end = there.1 in
       record { holds = there.0; here = refl; under = omega arith; used_up = end }
 
@@ -59,12 +58,11 @@ module _ {R Q : Type 0} (s : Summing R Q) (c : ℕ → Content R) where
   unfolding lay made node_of
   lay_leaf before {mid} {after} {u} {v} {at} a x p w k size room =
       let fits = room.fits in
-      let few = room.few in
       let low = p.under in
       let up = p.used_up in
       let t = lay x u in
       let follows : slice_get mid at ≡ Some (node_of s c t) = ap (slice_get mid) (sym p.here) ∙ held_root s c mid t p.holds in
-      let there = w.there (omega arith) (omega arith) (c a) k (Some (root t, node_of s c t)) (sym p.here, follows) in
+      let there = w.there (omega arith) (c a) k (Some (root t, node_of s c t)) (sym p.here, follows) in
       let end = there.1 in
       record {
         holds = (ap (slice_get after) (sym up) ∙ there.0, omega arith, held_on s c t w.grown low p.holds);
@@ -79,7 +77,6 @@ module _ {R Q : Type 0} (s : Summing R Q) (c : ℕ → Content R) where
   unfolding lay made node_of
   lay_fork before {mid} {then} {after} {u} {v} {w} {j} {k} m x y p g q f size room =
       let fits = room.fits in
-      let few = room.few in
       let more = g.more in
       let low = p.under in
       let up = p.used_up in
@@ -91,7 +88,7 @@ module _ {R Q : Type 0} (s : Summing R Q) (c : ℕ → Content R) where
       let first : Holds s c then s₁ = held_on s c s₁ g low p.holds in
       let below : slice_get then j ≡ Some (node_of s c s₁) = ap (slice_get then) (sym p.here) ∙ held_root s c then s₁ first in
       let behind : slice_get then k ≡ Some (node_of s c t₁) = ap (slice_get then) (sym q'.here) ∙ held_root s c then t₁ q'.holds in
-      let there = f.there (omega arith) (omega arith) (node_of s c s₁) (node_of s c t₁) below behind in
+      let there = f.there (omega arith) (node_of s c s₁) (node_of s c t₁) below behind in
       let end = there.1 in
       let same : u + made x + made y ≡ w = omega arith in
       record {

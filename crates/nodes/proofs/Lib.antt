@@ -12,3 +12,4 @@ pub mod Removals
 pub mod Parts
 pub mod Plans
 pub mod Gaps
+pub mod Edges

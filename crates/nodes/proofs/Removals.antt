@@ -40,13 +40,13 @@ pub remove_after_is : (e m : ℕ) (x y : Laid) (p : ℕ) → leaves (plain x) < 
 unfolding remove_at
 remove_after_is e m x y p h = cond-false _ _ _ (le-ltb p (leaves (plain x)) (omega arith)) ∙ cond-true _ _ _ (lt-ltb (leaves (plain x)) p h)
 
-module _ {R Q : Type 0} (s : Summing R Q) (before : List (Node Q)) {used at upto : ℕ} where
+module _ {R Q : Type 0} (s : Summing R Q) (before : List (Node Q)) {used at : ℕ} (upto : ℕ) where
   pub remove_nothing : {after : List (Node Q)} {r next : ℕ} → None ≡ seen at (slice_get before at) → Removed s before used at upto after r next
-  remove_nothing see c = walk_nothing s c remove_at see
+  remove_nothing see c = walk_nothing s c remove_at upto see
 
   pub remove_last : {b l : ℕ} → Some (Leaf b l None) ≡ seen at (slice_get before at) → Removed s before used at upto before at used
   unfolding remove_at
-  remove_last see c = walk_last s c remove_at see (λ e a p _ h _ room. lay_kept s c (last e a) h)
+  remove_last see c = walk_last s c remove_at upto see (λ e a p _ h _ room. lay_kept s c (last e a) h)
 
   pub remove_here : {after : List (Node Q)} {b l k own r next : ℕ} {kept : Block Q} → Some (Leaf b l (Some k)) ≡ seen at (slice_get before at) → kept ≡ kept_in s b l (slice_get before at) → own ≡ min l 1 → upto ≤ own + 1
       → Led s before used k kept after r next → Removed s before used at upto after r next
@@ -76,7 +76,7 @@ module _ {R Q : Type 0} (s : Summing R Q) (before : List (Node Q)) {used at upto
       → Grown before used mid v → Removed s before used i upto mid r v → length mid ≡ length before
       → ForkWritten s mid v m r j after next → Removed s before used at upto after v next
   remove_below {mid} {after} {m} {v = v} {next = next} see b u grown part size w c =
-      walk_below s c remove_at see b u
+      walk_below s c remove_at upto see b u
       (λ e x y p low below behind _ _ i.
       subst (Laying s c before used after v next) (sym (remove_below_is e m x y p low))
       (λ room. lay_fork s c before m (remove_at x p) (keep y) (part c x p below i (room_below s c _ _ room)) (grown_none mid v) (lay_kept s c y (ready_on s c y grown behind)) w size room))
@@ -84,7 +84,7 @@ module _ {R Q : Type 0} (s : Summing R Q) (before : List (Node Q)) {used at upto
   pub remove_between : {after : List (Node Q)} {m i j blocks r next : ℕ} → Some (Fork m i j) ≡ seen at (slice_get before at) → blocks ≡ blocks_in (slice_get before i) → blocks < upto → upto - blocks ≡ 1
       → Merged s before used i j after r next → Removed s before used at upto after r next
   remove_between {after} {m} {r = r} {next = next} see b u one merged c =
-      walk_after s c remove_at see b u
+      walk_after s c remove_at upto see b u
       (λ e x y p high below behind h _ i.
       let up = i.1 in
       let solid = h.counted.solid.1 in
@@ -94,7 +94,7 @@ module _ {R Q : Type 0} (s : Summing R Q) (before : List (Node Q)) {used at upto
       → Grown before used mid v → Removed s before used j (upto - blocks) mid r v → length mid ≡ length before
       → ForkWritten s mid v m i r after next → Removed s before used at upto after v next
   remove_after {mid} {after} {m} {v = v} {next = next} see b u more grown part size w c =
-      walk_after s c remove_at see b u
+      walk_after s c remove_at upto see b u
       (λ e x y p high below behind h _ i.
       let up = i.1 in
       let solid = h.counted.solid.1 in

@@ -1,7 +1,8 @@
 -- What a write leaves of a table. Assumes nothing.
-use Rattle.std.proofs.Common.{◌≡◌, ℕ, zero, suc, ◌+◌, ◌<◌, List, [], ◌∷◌, length, set, Some, refl, ap, ◌∙◌, arith}
+use Rattle.std.proofs.Common.{◌≡◌, ℕ, zero, suc, ◌+◌, ◌<◌, ◌≤◌, List, [], ◌∷◌, length, set, Some, Option, refl, ap, ap₂, ◌∙◌, ⊎_elim, arith}
 use Rattle.std.specs.List.{slice_get}
-use Rattle.nodes.specs.Holding.{Grown}
+use Rattle.std.proofs.lemmas.Bool.{cases_lt}
+use Rattle.nodes.specs.Holding.{Grown, Bounds, capacity}
 
 module _ {A : Type 0} where
   pub nth_set_same : (xs : List A) (k : ℕ) (x : A) → k < length xs → slice_get (set xs k x) k ≡ Some x
@@ -36,3 +37,21 @@ module _ {A : Type 0} where
         kept = λ k h. g.kept k (omega arith) ∙ f.kept k h;
         rest = λ k h. g.rest k h ∙ f.rest k (omega arith);
       }
+
+  -- lists of one length that have the same at every place
+  same_gets : (xs ys : List A) → length xs ≡ length ys → ((k : ℕ) → slice_get xs k ≡ slice_get ys k) → xs ≡ ys
+  same_gets [] [] e f = refl
+  same_gets [] (y ∷ ys) e f = absurd (omega arith)
+  same_gets (x ∷ xs) [] e f = absurd (omega arith)
+  same_gets (x ∷ xs) (y ∷ ys) e f =
+      let first : ◌≡◌ {A = Option A} (Some x) (Some y) = f 0 in
+      let same : x ≡ y = cc in
+      ap₂ (λ a l. a ∷ l) same (same_gets xs ys (omega arith) (λ k. f (suc k)))
+
+  -- with no free entry a walk changes nothing
+  pub grown_full : {xs ys : List A} {used at root next : ℕ} → Grown xs used ys next → Bounds xs used at root next → length ys ≡ length xs → capacity xs ≤ used → (ys ≡ xs) × (next ≡ used)
+  grown_full {xs} {ys} {used} {next = next} g b size full =
+      let more = g.more in
+      let within = b.within in
+      let same : next ≡ used = omega arith in
+      (same_gets ys xs size (λ k. ⊎_elim (λ l. g.kept k l) (λ m. g.rest k (omega arith)) (cases_lt k used)), same)

@@ -1,5 +1,5 @@
 -- What stands in a table of nodes for a laid tree, and what a walk over the table leaves. Assumes nothing.
-use Rattle.std.specs.Prelude.{◌≡◌, ℕ, ◌+◌, ◌%◌, ◌^◌, ◌<◌, ◌≤◌, min, List, length, Some, None, Option}
+use Rattle.std.specs.Prelude.{◌≡◌, ℕ, ◌+◌, ◌%◌, ◌^◌, ◌<◌, ◌≤◌, min, max, List, length, Some, None, Option}
 use Rattle.std.specs.List.{slice_get}
 use Rattle.summary.specs.Summing.{Summing, summary_of}
 use Rattle.flexlist.specs.Nodes.{leaves}
@@ -52,11 +52,25 @@ module _ {R Q : Type 0} (s : Summing R Q) where
   Holds c table (leaf e a t) = (slice_get table e ≡ Some (node_of c (leaf e a t))) × (root t < e) × Holds c table t
   Holds c table (fork e m x y) = (slice_get table e ≡ Some (node_of c (fork e m x y))) × (root x < e) × (root y < e) × Holds c table x × Holds c table y
 
+-- how many entries of a table are used at most
+abbrev pub capacity : {A : Type 0} → List A → ℕ
+capacity table = min 60000 (length table)
+
 -- what a walk left of a table: entries below `used` and from `next` on stay
 pub record Grown {A : Type 0} (before : List A) (used : ℕ) (after : List A) (next : ℕ) : Type 0 where
   pub more : used ≤ next
   pub kept : (k : ℕ) → k < used → slice_get after k ≡ slice_get before k
   pub rest : (k : ℕ) → next ≤ k → slice_get after k ≡ slice_get before k
+
+-- What a walk takes and answers, whatever the table holds: it counts no entry that the table has not or that is past the most that are used, and a root past the entry where it began
+-- is the last that it took, or the next free one.
+pub record Bounds {A : Type 0} (before : List A) (used at root next : ℕ) : Type 0 where
+  pub within : next ≤ max used (capacity before)
+  pub newest : at < root → (used ≤ root) × (root ≤ next) × (next ≤ root + 1)
+
+-- nothing written, and the root that was
+abbrev pub AsItWas : {A : Type 0} → List A → ℕ → ℕ → List A → ℕ → ℕ → Type 0
+AsItWas before used at after root next = (after ≡ before) × (root ≡ at) × (next ≡ used)
 
 -- each leaf but the leader's is of a block with readings; the leader may be the lead; and there are fewer leaves than 2 ^ 32
 abbrev pub BlocksAfter : {R : Type 0} → (ℕ → Content R) → Laid → Type 0

@@ -1,12 +1,12 @@
 -- What a walk sees at an entry, what it writes, and what a write leaves. Assumes nothing.
-use Rattle.std.specs.Prelude.{◌≡◌, ℕ, ◌+◌, ◌^◌, ◌<◌, Bool, true, cond, ◌&&◌, List, length, Some, None, Option, nat_lt}
+use Rattle.std.specs.Prelude.{◌≡◌, ℕ, ◌+◌, ◌^◌, ◌<◌, ◌≤◌, min, max, Bool, true, cond, ◌&&◌, List, length, Some, None, Option, nat_lt}
 use Rattle.std.specs.List.{slice_get}
 use Rattle.summary.specs.Summing.{Summing}
 use Rattle.nodes.specs.declared.node.Node.{Node}
 use Rattle.nodes.specs.declared.node.Block.{Block}
 use Rattle.nodes.specs.declared.node.Shape.{Shape}
 use Rattle.nodes.specs.declared.node.Shape.TheVariants.{Leaf, Fork}
-use Rattle.nodes.specs.Holding.{Grown}
+use Rattle.nodes.specs.Holding.{Grown, capacity}
 
 -- whether the parts of a shape stand below entry e
 abbrev pub parts_below : ℕ → Shape → Bool
@@ -42,7 +42,8 @@ row_in s (Some n) = n.row
 abbrev pub kept_in : {R Q : Type 0} → Summing R Q → ℕ → ℕ → Option (Node Q) → Block Q
 kept_in s number len entry = record { number = number; length = len; row = row_in s entry }
 
--- A node written at the entry `used`: the table grew by it, where there is room and a next entry has a number.
+-- A node written at the entry `used`: the table grew by it, where there is room and a next entry has a number; else nothing is counted.
 pub record Wrote {Q : Type 0} (before : List (Node Q)) (used : ℕ) (node : Node Q) (after : List (Node Q)) (next : ℕ) : Type 0 where
   pub grown : Grown before used after next
-  pub there : used < length before → used + 1 < 2 ^ 32 → (slice_get after used ≡ Some node) × (next ≡ used + 1)
+  pub one : next ≤ max used (min (used + 1) (capacity before))
+  pub there : used < capacity before → (slice_get after used ≡ Some node) × (next ≡ used + 1)

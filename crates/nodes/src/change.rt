@@ -1,5 +1,5 @@
 // A block of a tree changed: its path is written anew.
-ghost use Rattle.nodes.specs.Holding.{Grown};
+ghost use Rattle.nodes.specs.Holding.{Grown, Bounds};
 ghost use Rattle.nodes.specs.Changing.{Changed};
 
 use crate::makers::{write_fork, write_leaf};
@@ -9,15 +9,16 @@ use crate::walks::Built;
 use summary::Summary;
 
 // Writes the path to the block that `upto` blocks lead to, with the block given in its place.
-pub(crate) fn change<Q: Summary + Copy>(
+pub(crate) fn change<Q: Summary>(
     nodes: &mut [Node<Q>],
     used: u32,
     at: u32,
     upto: u32,
-    block: Block<Q>,
+    block: &Block<Q>,
 ) -> Built
     ensures grown { Grown nodes.old used nodes.new result.used }
-    ensures changed { Changed Q.Summary.means nodes.old used at upto block nodes.new result.root result.used }
+    ensures bounds { Bounds nodes.old used at result.root result.used }
+    ensures changed { Changed Q.Summary.means nodes.old used at upto block.now nodes.new result.root result.used }
 {
     let Some(shape) = view(nodes, at) else {
         return Built { root: at, used };
@@ -35,7 +36,7 @@ pub(crate) fn change<Q: Summary + Copy>(
             }
             let kept = kept_block(nodes, at, number, length);
             let rest = change(nodes, used, after, upto - own, block);
-            write_leaf(nodes, rest.used, kept, Some(rest.root))
+            write_leaf(nodes, rest.used, &kept, Some(rest.root))
         }
         Shape::Fork {
             level,

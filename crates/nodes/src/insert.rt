@@ -1,6 +1,6 @@
 // A block put into a tree.
 ghost use Rattle.std.specs.Prelude.{◌≡◌, nat_le, nat_lt};
-ghost use Rattle.nodes.specs.Holding.{Grown};
+ghost use Rattle.nodes.specs.Holding.{Grown, Bounds};
 ghost use Rattle.nodes.specs.Cutting.{CutMade, Inserted};
 
 use crate::makers::{write_fork, write_leaf};
@@ -11,16 +11,17 @@ use crate::walks::Built;
 use summary::Summary;
 
 // Writes the tree cut after the block that `upto` blocks lead to, under a fork of the level given, the block given first after it.
-fn cut<Q: Summary + Copy>(
+fn cut<Q: Summary>(
     nodes: &mut [Node<Q>],
     used: u32,
     at: u32,
     upto: u32,
     level: u8,
-    block: Block<Q>,
+    block: &Block<Q>,
 ) -> Built
     ensures grown { Grown nodes.old used nodes.new result.used }
-    ensures made { CutMade Q.Summary.means nodes.old used at upto block nodes.new result.root result.used level }
+    ensures bounds { Bounds nodes.old used at result.root result.used }
+    ensures made { CutMade Q.Summary.means nodes.old used at upto block.now nodes.new result.root result.used level }
 {
     let first = left(nodes, used, at, upto);
     let second = right(nodes, first.used, at, upto, block);
@@ -42,16 +43,17 @@ fn cuts_after(level: u8, fork: u8) -> bool
 }
 
 // Writes the tree with the block given, of the level given, after the block that `upto` blocks lead to.
-pub(crate) fn insert<Q: Summary + Copy>(
+pub(crate) fn insert<Q: Summary>(
     nodes: &mut [Node<Q>],
     used: u32,
     at: u32,
     upto: u32,
     level: u8,
-    block: Block<Q>,
+    block: &Block<Q>,
 ) -> Built
     ensures grown { Grown nodes.old used nodes.new result.used }
-    ensures inserted { Inserted Q.Summary.means nodes.old used at upto block nodes.new result.root result.used level }
+    ensures bounds { Bounds nodes.old used at result.root result.used }
+    ensures inserted { Inserted Q.Summary.means nodes.old used at upto block.now nodes.new result.root result.used level }
 {
     let Some(shape) = view(nodes, at) else {
         return Built { root: at, used };
@@ -65,7 +67,7 @@ pub(crate) fn insert<Q: Summary + Copy>(
         } => {
             let kept = kept_block(nodes, at, number, length);
             let leaf = write_leaf(nodes, used, block, None);
-            write_leaf(nodes, leaf.used, kept, Some(leaf.root))
+            write_leaf(nodes, leaf.used, &kept, Some(leaf.root))
         }
         Shape::Leaf {
             block: number,
@@ -76,10 +78,10 @@ pub(crate) fn insert<Q: Summary + Copy>(
             let own = length.min(1);
             if upto <= own {
                 let leaf = write_leaf(nodes, used, block, Some(after));
-                return write_leaf(nodes, leaf.used, kept, Some(leaf.root));
+                return write_leaf(nodes, leaf.used, &kept, Some(leaf.root));
             }
             let rest = insert(nodes, used, after, upto - own, level, block);
-            write_leaf(nodes, rest.used, kept, Some(rest.root))
+            write_leaf(nodes, rest.used, &kept, Some(rest.root))
         }
         Shape::Fork {
             level: high,

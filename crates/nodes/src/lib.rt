@@ -14,5 +14,5 @@ mod walks;
 
 pub use edits::{write_change, write_insert, write_removal};
 pub use node::{Block, Node, Shape};
-pub use table::{blocks_in, entry, kept_block, put, readings_in, view as view_at};
+pub use table::{CAPACITY, blocks_in, entry, kept_block, put, readings_in, view as view_at};
 pub use walks::Built;

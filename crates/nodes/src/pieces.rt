@@ -1,6 +1,6 @@
 // The pieces of a tree that is cut after a place.
 ghost use Rattle.std.specs.Prelude.{◌≡◌, ◌==◌};
-ghost use Rattle.nodes.specs.Holding.{Grown};
+ghost use Rattle.nodes.specs.Holding.{Grown, Bounds};
 ghost use Rattle.nodes.specs.Cutting.{LeftMade, RightMade};
 
 use crate::makers::{write_fork, write_leaf};
@@ -17,8 +17,9 @@ fn ends_at_cut(blocks: u32, upto: u32) -> bool
 }
 
 // Writes the tree up to the block that `upto` blocks lead to; what ends just there is kept.
-pub(crate) fn left<Q: Summary + Copy>(nodes: &mut [Node<Q>], used: u32, at: u32, upto: u32) -> Built
+pub(crate) fn left<Q: Summary>(nodes: &mut [Node<Q>], used: u32, at: u32, upto: u32) -> Built
     ensures grown { Grown nodes.old used nodes.new result.used }
+    ensures bounds { Bounds nodes.old used at result.root result.used }
     ensures made { LeftMade Q.Summary.means nodes.old used at upto nodes.new result.root result.used }
 {
     if ends_at_cut(blocks_in(nodes, at), upto) {
@@ -37,10 +38,10 @@ pub(crate) fn left<Q: Summary + Copy>(nodes: &mut [Node<Q>], used: u32, at: u32,
             let kept = kept_block(nodes, at, number, length);
             let own = length.min(1);
             if upto <= own {
-                return write_leaf(nodes, used, kept, None);
+                return write_leaf(nodes, used, &kept, None);
             }
             let rest = left(nodes, used, after, upto - own);
-            write_leaf(nodes, rest.used, kept, Some(rest.root))
+            write_leaf(nodes, rest.used, &kept, Some(rest.root))
         }
         Shape::Fork {
             level,
@@ -58,15 +59,16 @@ pub(crate) fn left<Q: Summary + Copy>(nodes: &mut [Node<Q>], used: u32, at: u32,
 }
 
 // Writes what stands after the block that `upto` blocks lead to, led by the block given.
-pub(crate) fn right<Q: Summary + Copy>(
+pub(crate) fn right<Q: Summary>(
     nodes: &mut [Node<Q>],
     used: u32,
     at: u32,
     upto: u32,
-    block: Block<Q>,
+    block: &Block<Q>,
 ) -> Built
     ensures grown { Grown nodes.old used nodes.new result.used }
-    ensures made { RightMade Q.Summary.means nodes.old used at upto block nodes.new result.root result.used }
+    ensures bounds { Bounds nodes.old used at result.root result.used }
+    ensures made { RightMade Q.Summary.means nodes.old used at upto block.now nodes.new result.root result.used }
 {
     let Some(shape) = view(nodes, at) else {
         return Built { root: at, used };

@@ -1,6 +1,6 @@
 // A block taken out of a tree.
 ghost use Rattle.std.specs.Prelude.{◌≡◌, nat_lt};
-ghost use Rattle.nodes.specs.Holding.{Grown};
+ghost use Rattle.nodes.specs.Holding.{Grown, Bounds};
 ghost use Rattle.nodes.specs.Removing.{Led, Merged, Removed};
 
 use crate::makers::{write_fork, write_leaf};
@@ -10,9 +10,10 @@ use crate::walks::Built;
 use summary::Summary;
 
 // Writes the tree with the block given for its leader.
-fn lead_by<Q: Summary + Copy>(nodes: &mut [Node<Q>], used: u32, at: u32, block: Block<Q>) -> Built
+fn lead_by<Q: Summary>(nodes: &mut [Node<Q>], used: u32, at: u32, block: &Block<Q>) -> Built
     ensures grown { Grown nodes.old used nodes.new result.used }
-    ensures led { Led Q.Summary.means nodes.old used at block nodes.new result.root result.used }
+    ensures bounds { Bounds nodes.old used at result.root result.used }
+    ensures led { Led Q.Summary.means nodes.old used at block.now nodes.new result.root result.used }
 {
     let Some(shape) = view(nodes, at) else {
         return Built { root: at, used };
@@ -38,8 +39,9 @@ fn second_over(first: u8, second: u8) -> bool
 }
 
 // Writes the first tree, then the second without its leader; where the second has no more than its leader, the first is kept.
-fn merge<Q: Summary + Copy>(nodes: &mut [Node<Q>], used: u32, first: u32, second: u32) -> Built
+fn merge<Q: Summary>(nodes: &mut [Node<Q>], used: u32, first: u32, second: u32) -> Built
     ensures grown { Grown nodes.old used nodes.new result.used }
+    ensures bounds { Bounds nodes.old used first result.root result.used }
     ensures merged { Merged Q.Summary.means nodes.old used first second nodes.new result.root result.used }
 {
     let Some(one) = view(nodes, first) else {
@@ -60,7 +62,7 @@ fn merge<Q: Summary + Copy>(nodes: &mut [Node<Q>], used: u32, first: u32, second
                 after: None,
             } => {
                 let kept = kept_block(nodes, first, number, length);
-                write_leaf(nodes, used, kept, Some(rest))
+                write_leaf(nodes, used, &kept, Some(rest))
             }
             Shape::Leaf {
                 block: number,
@@ -69,7 +71,7 @@ fn merge<Q: Summary + Copy>(nodes: &mut [Node<Q>], used: u32, first: u32, second
             } => {
                 let kept = kept_block(nodes, first, number, length);
                 let part = merge(nodes, used, after, second);
-                write_leaf(nodes, part.used, kept, Some(part.root))
+                write_leaf(nodes, part.used, &kept, Some(part.root))
             }
             Shape::Fork {
                 level,
@@ -106,13 +108,9 @@ fn merge<Q: Summary + Copy>(nodes: &mut [Node<Q>], used: u32, first: u32, second
 }
 
 // Writes the tree without the block that `upto` blocks lead to.
-pub(crate) fn remove<Q: Summary + Copy>(
-    nodes: &mut [Node<Q>],
-    used: u32,
-    at: u32,
-    upto: u32,
-) -> Built
+pub(crate) fn remove<Q: Summary>(nodes: &mut [Node<Q>], used: u32, at: u32, upto: u32) -> Built
     ensures grown { Grown nodes.old used nodes.new result.used }
+    ensures bounds { Bounds nodes.old used at result.root result.used }
     ensures removed { Removed Q.Summary.means nodes.old used at upto nodes.new result.root result.used }
 {
     let Some(shape) = view(nodes, at) else {
@@ -128,10 +126,10 @@ pub(crate) fn remove<Q: Summary + Copy>(
             let kept = kept_block(nodes, at, number, length);
             let own = length.min(1);
             if upto <= own + 1 {
-                return lead_by(nodes, used, after, kept);
+                return lead_by(nodes, used, after, &kept);
             }
             let rest = remove(nodes, used, after, upto - own);
-            write_leaf(nodes, rest.used, kept, Some(rest.root))
+            write_leaf(nodes, rest.used, &kept, Some(rest.root))
         }
         Shape::Fork {
             level,

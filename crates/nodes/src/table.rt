@@ -47,12 +47,7 @@ pub fn readings_in<Q: Copy>(nodes: &[Node<Q>], at: u32) -> u32
 }
 
 // The block of a leaf's entry, of the number and length that are seen there: the node keeps the summary of its row.
-pub fn kept_block<Q: Summary + Copy>(
-    nodes: &[Node<Q>],
-    at: u32,
-    number: u32,
-    length: u32,
-) -> Block<Q>
+pub fn kept_block<Q: Summary>(nodes: &[Node<Q>], at: u32, number: u32, length: u32) -> Block<Q>
     ensures { result ≡ kept_in Q.Summary.means number length (slice_get nodes.now at) }
 {
     let row = entry(nodes, at).map_or(Q::nothing(), |node| node.row);
@@ -73,13 +68,16 @@ pub fn put<T: Copy>(entries: &mut [T], at: usize, entry: T)
     }
 }
 
+// The most entries of a table that are used.
+pub const CAPACITY: usize = 60_000;
+
 // Writes a node at the next free entry; where there is no room, nothing is written, and that entry stays the next.
 pub(crate) fn write<Q: Copy>(nodes: &mut [Node<Q>], used: u32, node: Node<Q>) -> Built
     ensures root { result.root ≡ used }
     ensures wrote { Wrote nodes.old used node nodes.new result.used }
 {
     let at = used as usize;
-    if nodes.len() <= at || used == u32::MAX {
+    if nodes.len().min(CAPACITY) <= at {
         return Built { root: used, used };
     }
     nodes[at] = node;

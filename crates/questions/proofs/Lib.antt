@@ -9,3 +9,4 @@ pub mod Stored
 pub mod Parts
 pub mod Copies
 pub mod Sums
+pub mod Ends

@@ -14,7 +14,7 @@ use Rattle.nodes.specs.Views.{seen, blocks_in}
 use Rattle.nodes.specs.Walking.{CountedTo}
 use Rattle.nodes.proofs.Held.{leaves_some, counted_leaf, counted_below, counted_after}
 use Rattle.questions.specs.Readings.{Stands}
-use Rattle.questions.specs.Paths.{PathCounted, PathsCounted}
+use Rattle.questions.specs.Paths.{PathCounted, PathsFirst, PathsCounted}
 use Rattle.questions.proofs.Held.{at_nothing, at_last, at_leaf, at_fork}
 use Rattle.questions.proofs.Counts.{nodes_few, both_few, blocks_counted}
 use Rattle.questions.proofs.Ways.{one_more_if, one_more_is, Came}
@@ -58,6 +58,10 @@ module _ {R Q : Type 0} (s : Summing R Q) (table : List (Node Q)) (at upto : ℕ
   pub both_last : (b l : ℕ) → Some (Leaf b l None) ≡ seen at (slice_get table at) → PathsCounted s table at upto None
   unfolding leaves
   both_last b l v c t place h = at_last s c table (Said c place None) at b l v (λ e a p q k f n. let in' = n.0 in absurd (omega arith)) t h
+
+  -- a leaf with no block before it
+  pub both_first : (b l n own : ℕ) → Some (Leaf b l (Some n)) ≡ seen at (slice_get table at) → own ≡ min l 1 → upto ≤ own → PathsCounted s table at upto None
+  both_first b l n own v o u c t place h = at_leaf s c table (Said c place None) at b l n v (λ e a t' p d g k f i. let to = i.1 in absurd (omega arith)) t h
 
   stop_here : (c : ℕ → Content R) (e a n : ℕ) (t : Laid) (place own : ℕ) (q r : Option ℕ) → own ≡ min (length (c a).row) 1 → upto ≤ own + 1 → Stands s c table n t →
       PathCounted s table n 1 q → r ≡ one_more_if q → Said c place r (leaf e a t)
@@ -137,6 +141,31 @@ module _ {R Q : Type 0} (s : Summing R Q) (table : List (Node Q)) (at upto : ℕ
       let past = both_after m (plain x) (plain y) place (place - leaves (plain x)) over in
       one_more_is q r _ _ f (w c y (place - leaves (plain x)) j (counted_after c k) (omega arith) (omega arith, omega arith)) past
       (omega (arith, past, both_few (to_place (plain y) (place - leaves (plain x))) (to_place (plain y) (suc (place - leaves (plain x)))), leaves_some (plain x)))) t h
+
+-- ---- no block before
+
+module _ {R Q : Type 0} (s : Summing R Q) (table : List (Node Q)) (at upto : ℕ) where
+  pub first_none : PathsFirst s table at upto None
+  first_none c t h k i = refl
+
+  -- past the leader it is not asked
+  pub first_past : (b l n own : ℕ) (r : Option ℕ) → Some (Leaf b l (Some n)) ≡ seen at (slice_get table at) → own ≡ min l 1 → own < upto → PathsFirst s table at upto r
+  first_past b l n own r v o u c t h =
+      at_leaf s c table (λ t. Counted c t → CountedTo c t 0 upto → r ≡ None) at b l n v (λ e a t' p q g k i. let to = i.1 in absurd (omega arith)) t h
+
+  pub first_after : (m b n left : ℕ) (r : Option ℕ) → Some (Fork m b n) ≡ seen at (slice_get table at) → left ≡ blocks_in (slice_get table b) → left < upto → PathsFirst s table at upto r
+  first_after m b n left r v o u c t h =
+      at_fork s c table (λ t. Counted c t → CountedTo c t 0 upto → r ≡ None) at m b n v (λ e x y p q k i.
+      let count = blocks_counted s c table b left x p (counted_below c k) o in
+      let some = leaves_some (plain x) in
+      let to = i.1 in
+      absurd (omega arith)) t h
+
+  -- the leader is below
+  pub first_below : (m b n : ℕ) (q r : Option ℕ) → Some (Fork m b n) ≡ seen at (slice_get table at) → PathsFirst s table b upto q → r ≡ one_more_if q → PathsFirst s table at upto r
+  first_below m b n q r v w f c t h =
+      at_fork s c table (λ t. Counted c t → CountedTo c t 0 upto → r ≡ None) at m b n v (λ e x y p _ k i.
+      f ∙ ap one_more_if (w c x p (counted_below c k) (leaves_some (plain x), i.1))) t h
 
 -- ---- a walk on its way that ends where the two paths part
 

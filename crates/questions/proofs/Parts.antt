@@ -1,5 +1,5 @@
 -- Parts of lists, cut and written. Assumes nothing.
-use Rattle.std.proofs.Common.{◌≡◌, ℕ, ◌+◌, ◌-◌, ◌<◌, ◌≤◌, min, List, ◌++◌, length, take, drop, sym, ap, ◌∙◌, ap₂, ⊎_elim, append_assoc, append-nil, arith, length-drop, take_all, drop-drop}
+use Rattle.std.proofs.Common.{◌≡◌, ℕ, ◌+◌, ◌-◌, ◌<◌, ◌≤◌, min, List, ◌++◌, length, take, drop, sym, ap, ◌∙◌, ap₂, ⊎_elim, append_assoc, append-nil, arith, length-drop, take_all, drop-drop, drop_of_length-le}
 use lib.Seq.{paste, paste-zero, take-paste, drop-paste, take-append-le, drop-append-le, drop-append-add, take-append-add}
 use Rattle.std.proofs.lemmas.Bool.{cases_lt}
 use Rattle.questions.specs.Spans.{with_part}
@@ -9,6 +9,25 @@ module _ {A : Type 0} where
   part_none before to xs a b h =
       let none : b - a ≡ 0 = omega arith in
       paste-zero before to (drop a xs) ∙ ap (paste before to (drop a xs)) (sym none)
+
+  -- a part beyond the list's end is one up to it
+  pub part_clamped : (xs : List A) (a b from upto : ℕ) → from ≡ min a (length xs) → upto ≡ min b (length xs) → take (upto - from) (drop from xs) ≡ take (b - a) (drop a xs)
+  part_clamped xs a b from upto f u =
+      let within : a ≤ length xs → b ≤ length xs → take (upto - from) (drop from xs) ≡ take (b - a) (drop a xs) =
+      λ g h. (let same : from ≡ a = omega arith in let end : upto ≡ b = omega arith in ap₂ (λ m n. take (n - m) (drop m xs)) same end) in
+      let turned : length xs < a → b ≤ length xs → take (upto - from) (drop from xs) ≡ take (b - a) (drop a xs) =
+      λ g h. (let none : upto - from ≡ 0 = omega arith in let none' : b - a ≡ 0 = omega arith in ap (λ n. take n (drop from xs)) none ∙ sym (ap (λ n. take n (drop a xs)) none')) in
+      let past : length xs < b → take (upto - from) (drop from xs) ≡ take (b - a) (drop a xs) =
+      λ h. (
+      let start : drop from xs ≡ drop a xs =
+      ⊎_elim
+      (λ l. let same : from ≡ a = omega arith in ap (λ n. drop n xs) same)
+      (λ g. drop_of_length-le xs {i = from} (omega arith) ∙ sym (drop_of_length-le xs {i = a} g))
+      (cases_lt a (length xs)) in
+      let all : length (drop from xs) ≤ upto - from = simp length-drop (omega arith) in
+      let all' : length (drop a xs) ≤ b - a = simp length-drop (omega arith) in
+      take_all (upto - from) (drop from xs) all ∙ start ∙ sym (take_all (b - a) (drop a xs) all')) in
+      ⊎_elim (λ l. past l) (λ h. ⊎_elim (λ l. turned l h) (λ g. within g h) (cases_lt (length xs) a)) (cases_lt (length xs) b)
 
   -- ---- a part of two lists, one after the other, is a part of each
 

@@ -82,6 +82,7 @@ module _ {R Q : Type 0} (s : Summing R Q) (table : List (Node Q)) (at upto : ℕ
       let few = k.few in
       let count = blocks_counted s c table b left x i (counted_below c k) o in
       let to = c'.1 in
+      let some = leaves_some (plain x) in
       let there : place < leaves (plain x) = omega arith in
       one_more_is q r _ _ f (w c x place i (counted_below c k) (there, to)) (nodes_below m (plain x) (plain y) place there)
       (omega (arith, nodes_below m (plain x) (plain y) place there, nodes_few (to_place (plain x) place), leaves_some (plain y)))) t h

@@ -31,7 +31,7 @@ FoundIn c t position (Some f) = FoundAt c t position f (row_with (rows_of c t) p
 abbrev pub Finds : {R Q : Type 0} → Summing R Q → List (Node Q) → ℕ → ℕ → Option Found → Type 0
 Finds {R} s table at position r = (c : ℕ → Content R) (t : Laid) → Stands s c table at t → Small c t → FoundIn c t position r
 
--- the reading at a position and the length of the path to its block, or none past the end
+-- what was read at a position, with how many nodes lead to the block that has it; or none past the end
 abbrev pub Answers : {R : Type 0} → (ℕ → Content R) → Laid → ℕ → Option (Answer R) → Type 0
 Answers c t position None = length (readings_of c t) ≤ position
 Answers c t position (Some r) = (slice_get (readings_of c t) position ≡ Some r.reading) × (r.path ≡ nodes (to_place (plain t) (row_with (rows_of c t) position)))

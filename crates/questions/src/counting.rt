@@ -1,6 +1,6 @@
-// The nodes on the paths to a block and to the one before it.
+// How many nodes lead to a block, and how many to it and to its left neighbour.
 ghost use Rattle.std.specs.Prelude.{◌≡◌, ◌+◌, ◌%◌, ◌^◌};
-ghost use Rattle.questions.specs.Paths.{PathCounted, PathsCounted};
+ghost use Rattle.questions.specs.Paths.{PathCounted, PathsFirst, PathsCounted};
 
 use nodes::{Node, Shape, blocks_in, view_at};
 use summary::Summary;
@@ -20,7 +20,7 @@ fn with_both(count: u32, first: u32, second: u32) -> u32
 }
 
 // Goes to the block that `upto` blocks lead to, and counts the nodes on the way.
-pub(crate) fn path_walk<Q: Summary + Copy>(nodes: &[Node<Q>], at: u32, upto: u32) -> Option<u32>
+pub(crate) fn path_walk<Q: Summary>(nodes: &[Node<Q>], at: u32, upto: u32) -> Option<u32>
     ensures { PathCounted Q.Summary.means nodes.now at upto result }
 {
     let mut here = at;
@@ -56,9 +56,10 @@ pub(crate) fn path_walk<Q: Summary + Copy>(nodes: &[Node<Q>], at: u32, upto: u32
     }
 }
 
-// Goes to the block that `upto` blocks lead to and to the one before it, and counts the nodes on the way once.
-pub(crate) fn paths_walk<Q: Summary + Copy>(nodes: &[Node<Q>], at: u32, upto: u32) -> Option<u32>
-    ensures { PathsCounted Q.Summary.means nodes.now at upto result }
+// Goes to the block that `upto` blocks lead to and to the one before it, and counts the nodes on the way once; nowhere where no block is before it.
+pub(crate) fn paths_walk<Q: Summary>(nodes: &[Node<Q>], at: u32, upto: u32) -> Option<u32>
+    ensures first { PathsFirst Q.Summary.means nodes.now at upto result }
+    ensures counted { PathsCounted Q.Summary.means nodes.now at upto result }
 {
     let mut here = at;
     let mut rest = upto;
@@ -74,6 +75,9 @@ pub(crate) fn paths_walk<Q: Summary + Copy>(nodes: &[Node<Q>], at: u32, upto: u3
                 ..
             } => {
                 let own = length.min(1);
+                if rest <= own {
+                    return None;
+                }
                 if rest <= own + 1 {
                     let next = path_walk(nodes, after, 1)?;
                     return Some(count.wrapping_add(next));

@@ -7,11 +7,7 @@ use nodes::{Node, Shape, readings_in, view_at};
 use summary::Summary;
 
 // Goes to the block that has the reading at a position, and counts the nodes on the way.
-pub(crate) fn find_walk<Q: Summary + Copy>(
-    nodes: &[Node<Q>],
-    at: u32,
-    position: u32,
-) -> Option<Found>
+pub(crate) fn find<Q: Summary>(nodes: &[Node<Q>], at: u32, position: u32) -> Option<Found>
     ensures { Finds Q.Summary.means nodes.now at position result }
 {
     let mut here = at;

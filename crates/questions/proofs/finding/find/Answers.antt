@@ -1,5 +1,5 @@
 use Rattle.questions.proofs.Finds.{find_nothing, find_past, find_here, find_on, find_below, find_after, set_out, came_on, came_to_it, came_to_nothing}
-use Rattle.questions.proofs.finding.find_walk.Goals as goal
+use Rattle.questions.proofs.finding.find.Goals as goal
 
 pub loop-shape-init : goal.loop-shape-init
 loop-shape-init g c = set_out _ _ _ _
