@@ -1,10 +1,10 @@
 -- A change, from what its look, its put, its walk and its record leave. Assumes nothing.
 use Rattle.store.specs.Keeping.{Keeping}
-use Rattle.std.proofs.Common.{◌≡◌, ℕ, suc, ◌+◌, ◌-◌, ◌≤◌, false, List, [], ◌∷◌, ◌++◌, length, take, drop, set, Some, Ok, sym, refl, ap, ◌∙◌, subst, arith, length-append, take-append-drop, leb-false}
+use Rattle.std.proofs.Common.{◌<◌, ◌≡◌, ℕ, suc, ◌+◌, ◌-◌, ◌≤◌, false, List, [], ◌∷◌, ◌++◌, length, take, drop, set, Some, Ok, sym, refl, ap, ◌∙◌, subst, arith, length-append, take-append-drop, leb-false}
 use Rattle.std.specs.List.{slice_get, AllByRecursion}
 use Rattle.std.proofs.ByRecursion.{All-append, All-take, All-drop}
 use Rattle.summary.specs.Summing.{Summing}
-use Rattle.store.specs.Interface.{Taken}
+use Rattle.store.specs.Interface.{Taken, OneCause}
 use Rattle.flexlist.specs.Building.{Plan, made}
 use Rattle.laid.specs.Laid.{Laid, lay, whole}
 use Rattle.history.specs.Edits.{Content, Item, Edit, Known, change, list_of, content_of, first_changed}
@@ -26,13 +26,13 @@ use Rattle.archive.specs.Records.{readings_in, edit_record}
 use Rattle.archive.specs.Stands.{Tables, Fair, Stands, node_limit, version_limit}
 use Rattle.archive.specs.Refusals.{change_refusal}
 use Rattle.archive.specs.Looking.{RefusedOr}
-use Rattle.archive.specs.Editing.{ByRefusal, RowAccepted}
+use Rattle.archive.specs.Editing.{ByRefusal, RowAcceptedAs, RowAccepted}
 use Rattle.archive.proofs.Later.{list_new}
 use Rattle.archive.proofs.Planned.{change_planned, laid_shape}
 use Rattle.archive.proofs.Tried.{passed, all_passed}
 use Rattle.archive.proofs.Looks.{found_below, BaseFound}
 use Rattle.archive.proofs.Edited.{kept_spots, brought_leaf, base_ready, base_place, made_is, has_room, edit_stands}
-use Rattle.archive.proofs.Inserts.{looked_ok, looked_accepted, sub_is, placed_kept, placed_new, rows_kept, rows_next}
+use Rattle.archive.proofs.Inserts.{looked_ok, looked_accepted, block_new, sub_is, placed_kept, placed_new, rows_kept, rows_next}
 use Rattle.archive.proofs.Roots.{root_blocks, root_readings}
 
 module _ {R : Type 0} where
@@ -68,9 +68,9 @@ module _ {R Q S : Type 0} (means : Summing R Q) (keeps : Keeping S R) (s : Table
     xs : List (Item R)
     xs = list_of es base
 
-    accepted : RowAccepted means keeps es s store (change base place) row (record { root = at; used = next }) nodes (set s.versions s.count noted) after
+    accepted_as : RowAcceptedAs means keeps es s (change base place) row (record { root = at; used = next }) nodes (set s.versions s.count noted) after n
     unfolding new xs
-    accepted =
+    accepted_as =
         let e = change base place new in
         let tb = st.tables in
         let none = (looked_ok (change_refusal s es base place (length row)) (slice_get s.versions base) from looked).0 in
@@ -111,9 +111,6 @@ module _ {R Q S : Type 0} (means : Summing R Q) (keeps : Keeping S R) (s : Table
         let is : noted ≡ edit_record es e (next_list es e) at = λ i. record { parent = base; edit = Change; place = place; level = 0; block = leaf.number i; root = at; blocks = blocks i; readings = readings i; written = count i } in
         let stored = rows_kept (keeps.rows store) (keeps.rows after) kept xs (st.stored base) in
         record {
-          number = n;
-          fits = taken.fits;
-          put = taken.placed;
           written = grew;
           stands = record {
             tables = edit_stands means s es tb e from b plan planned nodes at next noted out grown size (omega arith) (omega arith) is fair few;
@@ -122,9 +119,16 @@ module _ {R Q S : Type 0} (means : Summing R Q) (keeps : Keeping S R) (s : Table
           };
         }
 
-    pub answered : (versions : List Version) → versions ≡ set s.versions s.count noted
-        → ByRefusal (change_refusal s es base place (length row)) (Ok (record { root = at; used = next })) (λ b. RowAccepted means keeps es s store (change base place) row b nodes versions after) (keeps.refuses store row)
-    answered versions is =
-        subst (λ l. ByRefusal (change_refusal s es base place (length row)) (Ok (record { root = at; used = next })) (λ b. RowAccepted means keeps es s store (change base place) row b nodes l after) (keeps.refuses store row)) (sym is)
+    accepted : s.count < length s.versions → RowAccepted means keeps es s (change base place) row (record { root = at; used = next }) nodes (set s.versions s.count noted) after
+    accepted room =
+        subst (RowAcceptedAs means keeps es s (change base place) row (record { root = at; used = next }) nodes (set s.versions s.count noted) after)
+        (sym (block_new s.versions s.count noted room ∙ leaf.number)) accepted_as
+
+    pub answered : s.count < length s.versions → (versions : List Version) → versions ≡ set s.versions s.count noted
+        → ByRefusal (change_refusal s es base place (length row)) (Ok (record { root = at; used = next })) (λ b. RowAccepted means keeps es s (change base place) row b nodes versions after)
+        (OneCause keeps.rows keeps.refuses keeps.area_long store row)
+    answered room versions is =
+        subst (λ l. ByRefusal (change_refusal s es base place (length row)) (Ok (record { root = at; used = next })) (λ b. RowAccepted means keeps es s (change base place) row b nodes l after)
+        (OneCause keeps.rows keeps.refuses keeps.area_long store row)) (sym is)
         (looked_accepted (change_refusal s es base place (length row)) (slice_get s.versions base) from (record { root = at; used = next })
-        (λ b. RowAccepted means keeps es s store (change base place) row b nodes (set s.versions s.count noted) after) (keeps.refuses store row) looked accepted)
+        (λ b. RowAccepted means keeps es s (change base place) row b nodes (set s.versions s.count noted) after) (OneCause keeps.rows keeps.refuses keeps.area_long store row) looked (accepted room))

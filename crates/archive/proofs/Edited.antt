@@ -76,7 +76,7 @@ module _ {R Q : Type 0} (means : Summing R Q) (s : Tables Q) (es : List (Edit R)
     has_room need h k =
         let m = made_is in
         let fit = st.nodes_fit in
-        record { fits = omega arith; few = omega arith }
+        record { fits = omega arith }
 
     -- the tables after the edit
     pub edit_stands : (after : List (Node Q)) (at next : ℕ) (v : Version) → LaidOut means (content_of (e ∷ es)) s.used plan after at next

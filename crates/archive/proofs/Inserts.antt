@@ -1,13 +1,13 @@
 -- An insert, from what its look, its put, its walk and its record leave. Assumes nothing.
 use Rattle.store.specs.Keeping.{Keeping}
-use Rattle.std.proofs.Common.{◌≡◌, ℕ, suc, ◌+◌, ◌-◌, ◌*◌, ◌%◌, ◌^◌, ◌<◌, ◌≤◌, List, [], ◌∷◌, ◌++◌, length, take, drop, set, Some, None, Ok, Option, unwrap_or, sym, refl, ap, ◌∙◌, subst, mod-eq_of_lt, arith, length-append, length-drop, take-append-drop, length-take, ltb-false, leb-false}
+use Rattle.std.proofs.Common.{◌≡◌, ℕ, suc, ◌+◌, ◌-◌, ◌*◌, ◌%◌, ◌^◌, ◌<◌, ◌≤◌, List, [], ◌∷◌, ◌++◌, length, take, drop, set, Some, None, Ok, Err, Option, unwrap_or, sym, refl, ap, ◌∙◌, subst, mod-eq_of_lt, arith, length-append, length-drop, take-append-drop, length-take, ltb-false, leb-false}
 use native.Mathlib.Decide.{dec_le}
 use Rattle.std.proofs.lemmas.Option.{slice_get_past, slice_get_within}
 use Rattle.std.specs.List.{slice_get, AllByRecursion}
 use Rattle.std.proofs.ByRecursion.{All-weaker, All-append, All-take, All-drop}
 use Rattle.summary.specs.Summing.{Summing}
 use Rattle.store.specs.declared.cause.Cause.{Cause}
-use Rattle.store.specs.Interface.{Placed, earlier, added, Taken}
+use Rattle.store.specs.Interface.{Placed, earlier, added, Taken, OneCause}
 use Rattle.flexlist.specs.Building.{Plan, made}
 use Rattle.laid.specs.Laid.{Laid, whole}
 use Rattle.history.specs.Edits.{Content, Item, Edit, insert, list_of, lists, content_of}
@@ -26,11 +26,13 @@ use Rattle.nodes.proofs.Plans.{insert_plain}
 use Rattle.archive.specs.declared.version.Version.{Version}
 use Rattle.archive.specs.declared.version.Kind.TheVariants.{Insert}
 use Rattle.archive.specs.declared.fault.EditFault.{EditFault}
-use Rattle.archive.specs.Records.{readings_in, edit_record}
+use Rattle.archive.specs.declared.fault.EditFault.TheVariants.{Store}
+use Rattle.archive.specs.Records.{readings_in, edit_record, block_in, block_at}
+use Rattle.nodes.proofs.Tables.{nth_set_same}
 use Rattle.archive.specs.Stands.{Tables, Fair, RowsStand, Stands, node_limit, version_limit}
 use Rattle.archive.specs.Refusals.{insert_refusal}
 use Rattle.archive.specs.Looking.{RefusedOr}
-use Rattle.archive.specs.Editing.{ByRefusal, RowAccepted}
+use Rattle.archive.specs.Editing.{ByRefusal, RowAcceptedAs, RowAccepted}
 use Rattle.archive.proofs.Later.{nth_front, nth_end, list_later, list_new}
 use Rattle.archive.proofs.Planned.{insert_planned}
 use Rattle.archive.proofs.Tried.{passed, all_passed}
@@ -46,6 +48,15 @@ looked_ok None None from h = absurd h
 pub looked_accepted : (o : Option EditFault) (v : Option Version) (from : Version) (b : Built) (accepted : Built → Type 0) (refused : Cause → Type 0) → RefusedOr o v (Ok from) → accepted b → ByRefusal o (Ok b) accepted refused
 looked_accepted (Some f) v from b accepted refused h k = let z : ◌≡◌ {A = ℕ} 0 1 = cc in absurd (omega arith)
 looked_accepted None v from b accepted refused h k = k
+
+-- the block number that a new record has
+pub block_new : (versions : List Version) (count : ℕ) (noted : Version) → count < length versions → block_at (set versions count noted) count ≡ noted.block
+block_new versions count noted h = ap block_in (nth_set_same versions count noted h)
+
+-- a look that answers a record, and then a row that the store refuses
+pub looked_unfit : (o : Option EditFault) (v : Option Version) (from : Version) (c : Cause) (accepted : Built → Type 0) (refused : Cause → Type 0) → RefusedOr o v (Ok from) → refused c → ByRefusal o (Err (Store c)) accepted refused
+looked_unfit (Some f) v from c accepted refused h r = let z : ◌≡◌ {A = ℕ} 0 1 = cc in absurd (omega arith)
+looked_unfit None v from c accepted refused h r = (c, refl, r)
 
 pub sub_is : (a b c : ℕ) → a ≡ b + c → a - b ≡ c
 sub_is a b c e = omega arith
@@ -124,9 +135,9 @@ module _ {R Q S : Type 0} (means : Summing R Q) (keeps : Keeping S R) (s : Table
     pub none : insert_refusal s es base place level (length row) ≡ None
     none = (looked_ok _ _ from looked).0
 
-    pub accepted : RowAccepted means keeps es s store (insert base place level) row (record { root = at; used = next }) nodes (set s.versions s.count noted) after
+    accepted_as : RowAcceptedAs means keeps es s (insert base place level) row (record { root = at; used = next }) nodes (set s.versions s.count noted) after n
     unfolding new xs
-    accepted =
+    accepted_as =
         let e = insert base place level new in
         let tb = st.tables in
         let a = passed _ _ _ none in
@@ -160,9 +171,6 @@ module _ {R Q S : Type 0} (means : Summing R Q) (keeps : Keeping S R) (s : Table
         let count : next - s.used ≡ written_by es e = sub_is next s.used (written_by es e) grew in
         let is : noted ≡ edit_record es e (next_list es e) at = λ i. record { parent = base; edit = Insert; place = place; level = level; block = leaf.number i; root = at; blocks = blocks i; readings = readings i; written = count i } in
         record {
-          number = n;
-          fits = taken.fits;
-          put = taken.placed;
           written = grew;
           stands = record {
             tables = edit_stands means s es tb e from b plan planned nodes at next noted out grown size (omega arith) (omega arith) is fair few;
@@ -171,10 +179,17 @@ module _ {R Q S : Type 0} (means : Summing R Q) (keeps : Keeping S R) (s : Table
           };
         }
 
+    pub accepted : s.count < length s.versions → RowAccepted means keeps es s (insert base place level) row (record { root = at; used = next }) nodes (set s.versions s.count noted) after
+    accepted room =
+        subst (RowAcceptedAs means keeps es s (insert base place level) row (record { root = at; used = next }) nodes (set s.versions s.count noted) after)
+        (sym (block_new s.versions s.count noted room ∙ leaf.number)) accepted_as
+
     -- the same as the insert's answer, where the table of versions holds the record
-    pub answered : (versions : List Version) → versions ≡ set s.versions s.count noted
-        → ByRefusal (insert_refusal s es base place level (length row)) (Ok (record { root = at; used = next })) (λ b. RowAccepted means keeps es s store (insert base place level) row b nodes versions after) (keeps.refuses store row)
-    answered versions is =
-        subst (λ l. ByRefusal (insert_refusal s es base place level (length row)) (Ok (record { root = at; used = next })) (λ b. RowAccepted means keeps es s store (insert base place level) row b nodes l after) (keeps.refuses store row)) (sym is)
+    pub answered : s.count < length s.versions → (versions : List Version) → versions ≡ set s.versions s.count noted
+        → ByRefusal (insert_refusal s es base place level (length row)) (Ok (record { root = at; used = next })) (λ b. RowAccepted means keeps es s (insert base place level) row b nodes versions after)
+        (OneCause keeps.rows keeps.refuses keeps.area_long store row)
+    answered room versions is =
+        subst (λ l. ByRefusal (insert_refusal s es base place level (length row)) (Ok (record { root = at; used = next })) (λ b. RowAccepted means keeps es s (insert base place level) row b nodes l after)
+        (OneCause keeps.rows keeps.refuses keeps.area_long store row)) (sym is)
         (looked_accepted (insert_refusal s es base place level (length row)) (slice_get s.versions base) from (record { root = at; used = next })
-        (λ b. RowAccepted means keeps es s store (insert base place level) row b nodes (set s.versions s.count noted) after) (keeps.refuses store row) looked accepted)
+        (λ b. RowAccepted means keeps es s (insert base place level) row b nodes (set s.versions s.count noted) after) (OneCause keeps.rows keeps.refuses keeps.area_long store row) looked (accepted room))

@@ -14,3 +14,5 @@ pub mod Removals
 pub mod Calls
 pub mod Asks
 pub mod Stretches
+pub mod Holding
+pub mod Kept

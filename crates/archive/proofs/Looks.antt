@@ -1,5 +1,5 @@
 -- What a look at tables that stand finds. Assumes nothing.
-use Rattle.std.proofs.Common.{◌≡◌, ℕ, zero, suc, ◌+◌, ◌-◌, ◌<◌, ◌≤◌, Bool, true, false, cond, eqb, ltb, leb, List, [], ◌∷◌, length, Some, None, Ok, Err, Option, unwrap_or, sym, refl, ap, ◌∙◌, subst, arith, le-ltb, lt-ltb, le-leb, leb-false}
+use Rattle.std.proofs.Common.{◌≡◌, ℕ, zero, suc, ◌+◌, ◌-◌, ◌<◌, ◌≤◌, Bool, true, false, cond, eqb, ltb, leb, List, [], ◌∷◌, length, Some, None, Ok, Err, Option, unwrap_or, sym, refl, ap, ◌∙◌, subst, arith, le-ltb, lt-ltb, le-leb, leb-false, leb-true}
 use borrow.Author.Tests.{lt-leb, eqb-false}
 use Rattle.std.specs.List.{slice_get}
 use Rattle.std.proofs.lemmas.Bool.{cond-true, cond-false}
@@ -16,7 +16,7 @@ use Rattle.archive.specs.declared.fault.EditFault.TheVariants as fault
 use Rattle.archive.specs.Records.{edit_of, edits_before, readings_in, record_by, record_of}
 use Rattle.archive.specs.Stands.{Tables, VersionStands, TablesStand, node_limit, version_limit}
 use Rattle.archive.specs.Looking.{in_use, RefusedOr}
-use Rattle.archive.specs.Refusals.{later_fault, full, free, insert_refusal, change_refusal, removal_refusal}
+use Rattle.archive.specs.Refusals.{first_of, early_fault, later_fault, full, free, insert_refusal, change_refusal, removal_refusal}
 use Rattle.archive.proofs.Later.{nth_front, same_some, some_none}
 use Rattle.archive.proofs.Planned.{same_shape}
 use Rattle.archive.proofs.Standing.{counted, lead_empty, leaves_are}
@@ -105,10 +105,10 @@ module _ {R Q : Type 0} (means : Summing R Q) (s : Tables Q) (es : List (Edit R)
   pub looked_far : (far : Bool) (later : Option EditFault) (o : Option Version) → base ≤ length es → far ≡ true → RefusedOr (refusal_by far later) o (Err fault.Place)
   looked_far far later o h q = subst (λ r. RefusedOr r o (Err fault.Place)) (sym (refusal_known far later h ∙ cond-true far _ _ q)) refl
 
-  pub looked_later : (far : Bool) (later : Option EditFault) (o : Option Version) (f : EditFault) → base ≤ length es → far ≡ false → later ≡ Some f → RefusedOr (refusal_by far later) o (Err f)
+  looked_later : (far : Bool) (later : Option EditFault) (o : Option Version) (f : EditFault) → base ≤ length es → far ≡ false → later ≡ Some f → RefusedOr (refusal_by far later) o (Err f)
   looked_later far later o f h q e = subst (λ r. RefusedOr r o (Err f)) (sym (refusal_known far later h ∙ cond-false far _ _ q ∙ e)) refl
 
-  pub looked_fine : (far : Bool) (later : Option EditFault) (from : Version) → BaseFound from → far ≡ false → later ≡ None → RefusedOr (refusal_by far later) (slice_get s.versions base) (Ok from)
+  looked_fine : (far : Bool) (later : Option EditFault) (from : Version) → BaseFound from → far ≡ false → later ≡ None → RefusedOr (refusal_by far later) (slice_get s.versions base) (Ok from)
   looked_fine far later from b q e =
       subst (λ o. RefusedOr (refusal_by far later) o (Ok from)) (sym b.there) (subst (λ r. RefusedOr r (Some from) (Ok from)) (sym (refusal_known far later b.low ∙ cond-false far _ _ q ∙ e)) refl)
 
@@ -136,16 +136,48 @@ module _ {R Q : Type 0} (means : Summing R Q) (s : Tables Q) (es : List (Edit R)
         p (content_of es) t place (record { holds = w.holds; here = sym b.told_of.root_is }) (counted es (list_of es base) t w.shaped known w.fair w.few) (omega arith) (omega arith, omega arith)
         ∙ ap (λ x. Some (nodes_of_both (to_place x place) (to_place x (suc place)))) (same_shape (list_of es base) (plain t) w.shaped)
 
-  -- what is tried later, by the tables and by the replay
-  pub later_same : (level len : ℕ) (crowded here : Bool) (need due : ℕ) → crowded ≡ here → need ≡ due
-      → later_fault level len crowded (leb (version_limit s) s.count) (node_limit s - s.used) need ≡ later_fault level len here (full s es) (free s es) due
-  later_same level len crowded here need due p q =
-      ap (λ c. later_fault level len c (leb (version_limit s) s.count) (node_limit s - s.used) need) p
-      ∙ ap (λ n. later_fault level len here (leb (version_limit s) s.count) (node_limit s - s.used) n) q
-      ∙ ap (λ n. later_fault level len here (leb (version_limit s) n) (node_limit s - s.used) due) st.counted
-      ∙ ap (λ n. later_fault level len here (full s es) (node_limit s - n) due) st.used_up
+  -- The exits of a look past the place: what is tried early, by the tables and by the replay; and the free nodes.
+  module _ (from : Version) (b : BaseFound from) (far : Bool) (near : far ≡ false) (level len : ℕ) (crowded here : Bool) (same : crowded ≡ here) (due : ℕ) where
+    early : Option EditFault
+    early = early_fault level len here (full s es)
 
-  -- ---- the exits of a look
+    few : Option EditFault
+    few = cond (ltb (free s es) due) (Some fault.Nodes) None
+
+    early_same : early_fault level len crowded (leb (version_limit s) s.count) ≡ early
+    unfolding early
+    early_same =
+        ap (λ c. early_fault level len c (leb (version_limit s) s.count)) same ∙ ap (λ n. early_fault level len here (leb (version_limit s) n)) st.counted
+
+    pub exit_early : (f : EditFault) → early_fault level len crowded (leb (version_limit s) s.count) ≡ Some f
+        → RefusedOr (refusal_by far (later_fault level len here (full s es) (free s es) due)) (slice_get s.versions base) (Err f)
+    unfolding early
+    exit_early f e =
+        looked_later far _ (slice_get s.versions base) f b.low near (ap (λ o. first_of o (cond (ltb (free s es) due) (Some fault.Nodes) None)) (sym early_same ∙ e))
+
+    module _ (none : early_fault level len crowded (leb (version_limit s) s.count) ≡ None) (need : ℕ) (is : need ≡ due) where
+      few_only : later_fault level len here (full s es) (free s es) due ≡ cond (ltb (free s es) due) (Some fault.Nodes) None
+      unfolding early
+      few_only = ap (λ o. first_of o (cond (ltb (free s es) due) (Some fault.Nodes) None)) (sym early_same ∙ none)
+
+      pub exit_few : leb (s.used + need) (node_limit s) ≡ false
+          → RefusedOr (refusal_by far (later_fault level len here (full s es) (free s es) due)) (slice_get s.versions base) (Err fault.Nodes)
+      exit_few l =
+          let low = leb-false (s.used + need) (node_limit s) l in
+          let u = st.used_up in
+          let fits = st.nodes_fit in
+          let t = lt-ltb (free s es) due (omega arith) in
+          looked_later far _ (slice_get s.versions base) fault.Nodes b.low near (few_only ∙ cond-true (ltb (free s es) due) (Some fault.Nodes) None t)
+
+      pub exit_fine : leb (s.used + need) (node_limit s) ≡ true
+          → RefusedOr (refusal_by far (later_fault level len here (full s es) (free s es) due)) (slice_get s.versions base) (Ok from)
+      exit_fine l =
+          let low = leb-true (s.used + need) (node_limit s) l in
+          let u = st.used_up in
+          let t = le-ltb (free s es) due (omega arith) in
+          looked_fine far _ from b near (few_only ∙ cond-false (ltb (free s es) due) (Some fault.Nodes) None t)
+
+  -- ---- of an insert
 
   pub insert_misplaced : (place level len : ℕ) (from : Version) → in_use s.versions s.count base ≡ Some from → from.blocks < place
       → RefusedOr (insert_refusal s es base place level len) (slice_get s.versions base) (Err fault.Place)
@@ -160,78 +192,75 @@ module _ {R Q : Type 0} (means : Summing R Q) (s : Tables Q) (es : List (Edit R)
       let n = b.told_of.blocks_is in
       some_none _ (sym (way_is from b place None (omega arith) p))
 
-  module _ (place level len : ℕ) (from : Version) (q : in_use s.versions s.count base ≡ Some from) (l : place ≤ from.blocks) (way : ℕ) (p : PathCounted means s.nodes from.root place (Some way)) where
-    later_insert : later_fault level len (leb 500 from.blocks) (leb (version_limit s) s.count) (node_limit s - s.used) (way + 2)
-        ≡ later_fault level len (leb 500 (length (list_of es base))) (full s es) (free s es) (path (list_of es base) place + 2)
-    later_insert =
-        let b = found from q in
-        let n = b.told_of.blocks_is in
-        let w = same_some _ _ (way_is from b place (Some way) (omega arith) p) in
-        later_same level len (leb 500 from.blocks) (leb 500 (length (list_of es base))) (way + 2) (path (list_of es base) place + 2) (ap (leb 500) n) (ap (λ k. k + 2) w)
-
+  module _ (place level len : ℕ) (from : Version) (q : in_use s.versions s.count base ≡ Some from) (l : place ≤ from.blocks) where
     in_place : ltb (length (list_of es base)) place ≡ false
     in_place = let n = (found from q).told_of.blocks_is in le-ltb (length (list_of es base)) place (omega arith)
 
-    pub insert_refused : (f : EditFault) → later_fault level len (leb 500 from.blocks) (leb (version_limit s) s.count) (node_limit s - s.used) (way + 2) ≡ Some f
+    crowd : leb 500 from.blocks ≡ leb 500 (length (list_of es base))
+    crowd = ap (leb 500) (found from q).told_of.blocks_is
+
+    pub insert_stopped : (f : EditFault) → early_fault level len (leb 500 from.blocks) (leb (version_limit s) s.count) ≡ Some f
         → RefusedOr (insert_refusal s es base place level len) (slice_get s.versions base) (Err f)
-    insert_refused f e = looked_later _ _ (slice_get s.versions base) f (found from q).low in_place (sym later_insert ∙ e)
+    insert_stopped = exit_early from (found from q) _ in_place level len _ _ crowd (path (list_of es base) place + 2)
 
-    pub insert_fine : later_fault level len (leb 500 from.blocks) (leb (version_limit s) s.count) (node_limit s - s.used) (way + 2) ≡ None
-        → RefusedOr (insert_refusal s es base place level len) (slice_get s.versions base) (Ok from)
-    insert_fine e = looked_fine _ _ from (found from q) in_place (sym later_insert ∙ e)
+    module _ (none : early_fault level len (leb 500 from.blocks) (leb (version_limit s) s.count) ≡ None) (way : ℕ) (p : PathCounted means s.nodes from.root place (Some way)) where
+      due : way + 2 ≡ path (list_of es base) place + 2
+      due = let b = found from q in let n = b.told_of.blocks_is in ap (λ k. k + 2) (same_some _ _ (way_is from b place (Some way) (omega arith) p))
 
-  -- ---- the same of a change
+      pub insert_few : leb (s.used + (way + 2)) (node_limit s) ≡ false → RefusedOr (insert_refusal s es base place level len) (slice_get s.versions base) (Err fault.Nodes)
+      insert_few = exit_few from (found from q) _ in_place level len _ _ crowd (path (list_of es base) place + 2) none (way + 2) due
 
-  pub change_misplaced : (place len : ℕ) (from : Version) → in_use s.versions s.count base ≡ Some from → from.blocks ≤ place
-      → RefusedOr (change_refusal s es base place len) (slice_get s.versions base) (Err fault.Place)
-  change_misplaced place len from q l =
-      let b = found from q in
-      let n = b.told_of.blocks_is in
-      looked_far _ _ (slice_get s.versions base) b.low (le-leb (length (list_of es base)) place (omega arith))
+      pub insert_fine : leb (s.used + (way + 2)) (node_limit s) ≡ true → RefusedOr (insert_refusal s es base place level len) (slice_get s.versions base) (Ok from)
+      insert_fine = exit_fine from (found from q) _ in_place level len _ _ crowd (path (list_of es base) place + 2) none (way + 2) due
 
-  module _ (place len : ℕ) (from : Version) (q : in_use s.versions s.count base ≡ Some from) (l : place < from.blocks) (way : ℕ) (p : PathCounted means s.nodes from.root (suc place) (Some way)) where
-    later_change : later_fault 0 len false (leb (version_limit s) s.count) (node_limit s - s.used) way ≡ later_fault 0 len false (full s es) (free s es) (path (list_of es base) (suc place))
-    later_change =
+  -- ---- of a change and of a removal
+
+  module _ (place : ℕ) (from : Version) (q : in_use s.versions s.count base ≡ Some from) where
+    misplaced : (later : Option EditFault) → from.blocks ≤ place → RefusedOr (refusal_by (leb (length (list_of es base)) place) later) (slice_get s.versions base) (Err fault.Place)
+    misplaced later l =
         let b = found from q in
         let n = b.told_of.blocks_is in
-        later_same 0 len false false way (path (list_of es base) (suc place)) refl (same_some _ _ (way_is from b (suc place) (Some way) (omega arith) p))
+        looked_far _ _ (slice_get s.versions base) b.low (le-leb (length (list_of es base)) place (omega arith))
 
-    there : leb (length (list_of es base)) place ≡ false
-    there = let n = (found from q).told_of.blocks_is in lt-leb (length (list_of es base)) place (omega arith)
+    pub change_misplaced : (len : ℕ) → from.blocks ≤ place → RefusedOr (change_refusal s es base place len) (slice_get s.versions base) (Err fault.Place)
+    change_misplaced len = misplaced _
 
-    pub change_refused : (f : EditFault) → later_fault 0 len false (leb (version_limit s) s.count) (node_limit s - s.used) way ≡ Some f
-        → RefusedOr (change_refusal s es base place len) (slice_get s.versions base) (Err f)
-    change_refused f e = looked_later _ _ (slice_get s.versions base) f (found from q).low there (sym later_change ∙ e)
+    pub removal_misplaced : from.blocks ≤ place → RefusedOr (removal_refusal s es base place) (slice_get s.versions base) (Err fault.Place)
+    removal_misplaced = misplaced _
 
-    pub change_fine : later_fault 0 len false (leb (version_limit s) s.count) (node_limit s - s.used) way ≡ None → RefusedOr (change_refusal s es base place len) (slice_get s.versions base) (Ok from)
-    change_fine e = looked_fine _ _ from (found from q) there (sym later_change ∙ e)
+    module _ (l : place < from.blocks) where
+      there : leb (length (list_of es base)) place ≡ false
+      there = let n = (found from q).told_of.blocks_is in lt-leb (length (list_of es base)) place (omega arith)
 
-  -- ---- the same of a removal
+      pub removal_lost : PathsCounted means s.nodes from.root (suc place) None → ⊥
+      removal_lost p =
+          let b = found from q in
+          let n = b.told_of.blocks_is in
+          some_none _ (sym (ways_are from b place None (omega arith) p))
 
-  pub removal_misplaced : (place : ℕ) (from : Version) → in_use s.versions s.count base ≡ Some from → from.blocks ≤ place → RefusedOr (removal_refusal s es base place) (slice_get s.versions base) (Err fault.Place)
-  removal_misplaced place from q l =
-      let b = found from q in
-      let n = b.told_of.blocks_is in
-      looked_far _ _ (slice_get s.versions base) b.low (le-leb (length (list_of es base)) place (omega arith))
+      pub change_stopped : (len : ℕ) (f : EditFault) → early_fault 0 len false (leb (version_limit s) s.count) ≡ Some f
+          → RefusedOr (change_refusal s es base place len) (slice_get s.versions base) (Err f)
+      change_stopped len = exit_early from (found from q) _ there 0 len false false refl (path (list_of es base) (suc place))
 
-  pub removal_lost : (place : ℕ) (from : Version) → in_use s.versions s.count base ≡ Some from → place < from.blocks → PathsCounted means s.nodes from.root (suc place) None → ⊥
-  removal_lost place from q l p =
-      let b = found from q in
-      let n = b.told_of.blocks_is in
-      some_none _ (sym (ways_are from b place None (omega arith) p))
+      pub removal_stopped : (f : EditFault) → early_fault 0 1 false (leb (version_limit s) s.count) ≡ Some f → RefusedOr (removal_refusal s es base place) (slice_get s.versions base) (Err f)
+      removal_stopped = exit_early from (found from q) _ there 0 1 false false refl (two_paths (list_of es base) place - 1)
 
-  module _ (place : ℕ) (from : Version) (q : in_use s.versions s.count base ≡ Some from) (l : place < from.blocks) (ways : ℕ) (p : PathsCounted means s.nodes from.root (suc place) (Some ways)) where
-    later_removal : later_fault 0 1 false (leb (version_limit s) s.count) (node_limit s - s.used) (ways - 1) ≡ later_fault 0 1 false (full s es) (free s es) (two_paths (list_of es base) place - 1)
-    later_removal =
-        let b = found from q in
-        let n = b.told_of.blocks_is in
-        later_same 0 1 false false (ways - 1) (two_paths (list_of es base) place - 1) refl (ap (λ k. k - 1) (same_some _ _ (ways_are from b place (Some ways) (omega arith) p)))
+      module _ (len : ℕ) (none : early_fault 0 len false (leb (version_limit s) s.count) ≡ None) (way : ℕ) (p : PathCounted means s.nodes from.root (suc place) (Some way)) where
+        way_due : way ≡ path (list_of es base) (suc place)
+        way_due = let b = found from q in let n = b.told_of.blocks_is in same_some _ _ (way_is from b (suc place) (Some way) (omega arith) p)
 
-    within : leb (length (list_of es base)) place ≡ false
-    within = let n = (found from q).told_of.blocks_is in lt-leb (length (list_of es base)) place (omega arith)
+        pub change_few : leb (s.used + way) (node_limit s) ≡ false → RefusedOr (change_refusal s es base place len) (slice_get s.versions base) (Err fault.Nodes)
+        change_few = exit_few from (found from q) _ there 0 len false false refl (path (list_of es base) (suc place)) none way way_due
 
-    pub removal_refused : (f : EditFault) → later_fault 0 1 false (leb (version_limit s) s.count) (node_limit s - s.used) (ways - 1) ≡ Some f → RefusedOr (removal_refusal s es base place) (slice_get s.versions base) (Err f)
-    removal_refused f e = looked_later _ _ (slice_get s.versions base) f (found from q).low within (sym later_removal ∙ e)
+        pub change_fine : leb (s.used + way) (node_limit s) ≡ true → RefusedOr (change_refusal s es base place len) (slice_get s.versions base) (Ok from)
+        change_fine = exit_fine from (found from q) _ there 0 len false false refl (path (list_of es base) (suc place)) none way way_due
 
-    pub removal_fine : later_fault 0 1 false (leb (version_limit s) s.count) (node_limit s - s.used) (ways - 1) ≡ None → RefusedOr (removal_refusal s es base place) (slice_get s.versions base) (Ok from)
-    removal_fine e = looked_fine _ _ from (found from q) within (sym later_removal ∙ e)
+      module _ (none : early_fault 0 1 false (leb (version_limit s) s.count) ≡ None) (ways : ℕ) (p : PathsCounted means s.nodes from.root (suc place) (Some ways)) where
+        both_due : ways - 1 ≡ two_paths (list_of es base) place - 1
+        both_due = let b = found from q in let n = b.told_of.blocks_is in ap (λ k. k - 1) (same_some _ _ (ways_are from b place (Some ways) (omega arith) p))
+
+        pub removal_few : leb (s.used + (ways - 1)) (node_limit s) ≡ false → RefusedOr (removal_refusal s es base place) (slice_get s.versions base) (Err fault.Nodes)
+        removal_few = exit_few from (found from q) _ there 0 1 false false refl (two_paths (list_of es base) place - 1) none (ways - 1) both_due
+
+        pub removal_fine : leb (s.used + (ways - 1)) (node_limit s) ≡ true → RefusedOr (removal_refusal s es base place) (slice_get s.versions base) (Ok from)
+        removal_fine = exit_fine from (found from q) _ there 0 1 false false refl (two_paths (list_of es base) place - 1) none (ways - 1) both_due

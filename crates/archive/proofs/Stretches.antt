@@ -1,5 +1,5 @@
 -- What the questions for readings a to b − 1 answer on tables that stand. Assumes nothing.
-use Rattle.std.proofs.Common.{◌≡◌, ℕ, ◌-◌, ◌<◌, ◌≤◌, Bool, true, false, cond, ltb, List, ◌++◌, length, take, drop, Some, None, Ok, Err, Option, sym, ap, ◌∙◌, append-nil, arith, drop_of_length-le, ltb-false, le-ltb, lt-ltb}
+use Rattle.std.proofs.Common.{ap₂, ◌&&◌, leb, le-leb, ◌≡◌, ℕ, ◌-◌, ◌<◌, ◌≤◌, Bool, true, false, cond, ltb, List, ◌++◌, length, take, drop, Some, None, Ok, Err, Option, sym, ap, ◌∙◌, append-nil, arith, drop_of_length-le, ltb-false, le-ltb, lt-ltb}
 use Rattle.std.proofs.lemmas.Bool.{cond-true, cond-false, or_parts}
 use Rattle.summary.specs.Summing.{Summing, summary_of}
 use Rattle.history.specs.Edits.{Edit, list_of, content_of}
@@ -58,7 +58,10 @@ module _ {R Q S : Type 0} (means : Summing R Q) (rows : S → List (List R)) (s 
         let order = i.0 in
         let end = i.1 in
         let same : length (readings_of (content_of es) t) ≡ length (all_readings (list_of es v)) = ap length w.readings in
-        p (content_of es) t w.stands w.stored w.small order (omega arith) (omega arith)
+        let rs = readings_of (content_of es) t in
+        let fits : (leb b (length rs) && leb (b - a) (length before)) ≡ true = ap₂ (λ x y. x && y) (le-leb b (length rs) (omega arith)) (le-leb (b - a) (length before) (omega arith)) in
+        p (content_of es) t w.stands w.stored w.small
+        ∙ cond-true (leb b (length rs) && leb (b - a) (length before)) (take (b - a) (drop a rs) ++ drop (b - a) before) before fits
         ∙ ap (λ l. take (b - a) (drop a (readings_of (content_of es) t)) ++ l) (drop_of_length-le before {i = b - a} (omega arith))
         ∙ append-nil (take (b - a) (drop a (readings_of (content_of es) t)))
         ∙ ap (λ l. take (b - a) (drop a l)) w.readings
@@ -90,5 +93,5 @@ module _ {R Q S : Type 0} (means : Summing R Q) (rows : S → List (List R)) (s 
         let end = i.1 in
         let same : length (readings_of (content_of es) t) ≡ length (all_readings (list_of es v)) = ap length w.readings in
         let whole : r ≡ summary_of means (part (list_of es v) a b) =
-        p (content_of es) t w.stands w.stored w.small order (omega arith) ∙ ap (λ l. summary_of means (take (b - a) (drop a l))) w.readings in
+        p (content_of es) t w.stands w.stored w.small ∙ ap (λ l. summary_of means (take (b - a) (drop a l))) w.readings in
         ap Ok whole ∙ ap (λ o. answer_by o (summary_of means (part (list_of es v) a b))) (sym (stretch_inside None e))

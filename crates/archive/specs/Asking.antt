@@ -1,5 +1,5 @@
 -- What the questions answer: one reading, readings a to b − 1, their summary. Assumes nothing.
-use Rattle.std.specs.Prelude.{◌≡◌, ℕ, suc, ◌-◌, ◌≤◌, Bool, cond, ◌||◌, List, ◌++◌, map, length, take, drop, Some, None, Ok, Err, Option, Result, nat_le, nat_lt}
+use Rattle.std.specs.Prelude.{◌≡◌, ℕ, suc, ◌-◌, ◌≤◌, Bool, cond, ◌||◌, List, ◌++◌, map, length, take, drop, Some, None, Ok, Err, IsOk, Option, Result, nat_le, nat_lt}
 use Rattle.std.specs.List.{slice_get}
 use Rattle.summary.specs.Summing.{Summing, summary_of}
 use Rattle.history.specs.Edits.{Item, Edit, list_of}
@@ -29,7 +29,7 @@ module _ {R : Type 0} where
   abbrev pub part : List (Item R) → ℕ → ℕ → List R
   part xs a b = take (b - a) (drop a (all_readings xs))
 
-  -- what stands at a position, and the length of the path to its block in the list's FlexList
+  -- what stands at a position, and how many nodes of the list's FlexList lead to the block that has it
   abbrev pub reading_found : List (Item R) → ℕ → Option R → Result (Answer R) ReadFault
   reading_found xs position None = Err unread.Position
   reading_found xs position (Some x) = Ok (record { reading = x; path = path xs (suc (row_with (rows_in xs) position)) })
@@ -80,6 +80,30 @@ module _ {R : Type 0} where
 
   abbrev pub summary_answer : {Q : Type 0} → Summing R Q → List (Edit R) → ℕ → ℕ → ℕ → Result Q ReadFault
   summary_answer means es v a b = answer_by (part_refusal es v a b) (summary_of means (part (list_of es v) a b))
+
+-- The refusal of a question that the version's record decides, whatever nodes there are: the version; the position or the stretch; for a span the output.
+abbrev pub position_refusal : ℕ → Option Version → Option ReadFault
+position_refusal position None = Some unread.Version
+position_refusal position (Some from) = cond (nat_le from.readings position) (Some unread.Position) None
+
+abbrev pub stretch_refusal : ℕ → ℕ → Option Version → Option ReadFault → Option ReadFault
+stretch_refusal a b None after = Some unread.Version
+stretch_refusal a b (Some from) after = cond (outside from.readings a b) (Some unread.Position) after
+
+-- what a reading answers then: that refusal; else a reading, or that no path leads to it, which is never so where tables stand
+abbrev pub ReadingEnds : {R : Type 0} → Option ReadFault → Result (Answer R) ReadFault → Type 0
+ReadingEnds (Some f) r = r ≡ Err f
+ReadingEnds None (Ok x) = Unit {0}
+ReadingEnds None (Err f) = f ≡ unread.Version
+
+-- and a summary: that refusal, else some summary
+abbrev pub SummaryEnds : {Q : Type 0} → Option ReadFault → Result Q ReadFault → Type 0
+SummaryEnds (Some f) r = r ≡ Err f
+SummaryEnds None r = IsOk r
+
+-- a span that the output's length alone can still refuse
+abbrev pub output_refusal : ℕ → ℕ → ℕ → Option ReadFault
+output_refusal a b n = cond (nat_lt n (b - a)) (Some unread.Output) None
 
 -- what the questions mean on tables and a store that stand for some edits
 module _ {R Q S : Type 0} (means : Summing R Q) (rows : S → List (List R)) (nodes : List (Node Q)) (versions : List Version) (count : ℕ) (store : S) where

@@ -6,4 +6,5 @@ pub mod Looking
 pub mod Editing
 pub mod Beginning
 pub mod Asking
+pub mod Held
 pub mod Calling

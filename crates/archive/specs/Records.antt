@@ -1,10 +1,18 @@
 -- What is recorded of a version, by the history that gave it. Assumes nothing.
 use Rattle.std.specs.Prelude.{ℕ, suc, ◌+◌, cond, List, [], ◌∷◌, length, Some, None, Option, ◌==◌}
+use Rattle.std.specs.List.{slice_get}
 use Rattle.history.specs.Edits.{Item, Edit, insert, change, removal, base_of, place_of, brought, list_of}
 use Rattle.history.specs.Replay.{written_by}
 use Rattle.archive.specs.declared.version.Kind.{Kind}
 use Rattle.archive.specs.declared.version.Kind.TheVariants.{Begun, Insert, Change, Removal}
 use Rattle.archive.specs.declared.version.Version.{Version}
+
+-- the number of each kind of edit, which is the kind byte of its record in a journal; 0 for version 0, which no edit gave
+abbrev pub kind_number : Kind → ℕ
+kind_number Begun = 0
+kind_number Insert = 2
+kind_number Change = 3
+kind_number Removal = 4
 
 -- the record of version 0
 abbrev pub begun_record : ℕ → Version
@@ -57,3 +65,11 @@ module _ {R : Type 0} where
 
   abbrev pub record_of : List (Edit R) → ℕ → ℕ → Version
   record_of es v root = record_by (edit_of es v) (edits_before es v) (list_of es v) root
+
+-- the block number that the record of a version has, 0 where there is no record
+abbrev pub block_in : Option Version → ℕ
+block_in None = 0
+block_in (Some v) = v.block
+
+abbrev pub block_at : List Version → ℕ → ℕ
+block_at versions v = block_in (slice_get versions v)

@@ -3,6 +3,7 @@ use Rattle.std.specs.Prelude.{ℕ, suc, ◌+◌, ◌-◌, Bool, cond, ◌||◌, 
 use Rattle.store.specs.Causes.{cause_number}
 use Rattle.history.specs.Edits.{Edit, list_of}
 use Rattle.history.specs.Replay.{path, two_paths, node_count}
+use Rattle.archive.specs.declared.version.Version.{Version}
 use Rattle.archive.specs.declared.fault.EditFault.{EditFault}
 use Rattle.archive.specs.declared.fault.EditFault.TheVariants as fault
 use Rattle.archive.specs.declared.fault.ReadFault.{ReadFault}
@@ -37,14 +38,32 @@ read_number unread.Version = 1
 read_number unread.Position = 2
 read_number unread.Output = 9
 
--- what is tried after version and place, in this order: the level, the row's length, 500 blocks, the table of versions, the free nodes
-abbrev pub later_fault : ℕ → ℕ → Bool → Bool → ℕ → ℕ → Option EditFault
-later_fault level len crowded full free need =
+-- the first of two refusals, if any
+abbrev pub first_of : Option EditFault → Option EditFault → Option EditFault
+first_of (Some f) o = Some f
+first_of None o = o
+
+-- what is tried after version and place, in this order: the level, the row's length, 500 blocks, the table of versions; no node decides these
+abbrev pub early_fault : ℕ → ℕ → Bool → Bool → Option EditFault
+early_fault level len crowded full =
     cond (nat_lt 15 level) (Some fault.Level)
     (cond (nat_lt len 1 || nat_lt 1024 len) (Some fault.RowLength)
     (cond crowded (Some fault.Blocks)
-    (cond full (Some fault.Versions)
-    (cond (nat_lt free need) (Some fault.Nodes) None))))
+    (cond full (Some fault.Versions) None)))
+
+-- Of an insert, and of a change or a removal, by the base's record: the place first. A removal has no row to refuse, and is tried as a change by a row
+-- of one reading.
+abbrev pub insert_early : Bool → ℕ → ℕ → ℕ → Version → Option EditFault
+insert_early full place level len from =
+    cond (nat_lt from.blocks place) (Some fault.Place) (early_fault level len (nat_le 500 from.blocks) full)
+
+abbrev pub change_early : Bool → ℕ → ℕ → Version → Option EditFault
+change_early full place len from = cond (nat_le from.blocks place) (Some fault.Place) (early_fault 0 len Bool.false full)
+
+-- and then the free nodes
+abbrev pub later_fault : ℕ → ℕ → Bool → Bool → ℕ → ℕ → Option EditFault
+later_fault level len crowded full free need =
+    first_of (early_fault level len crowded full) (cond (nat_lt free need) (Some fault.Nodes) None)
 
 module _ {R Q : Type 0} (s : Tables Q) (es : List (Edit R)) where
   -- is the table of versions full? how many nodes are free?

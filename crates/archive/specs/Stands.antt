@@ -62,7 +62,7 @@ module _ {R Q : Type 0} (means : Summing R Q) where
     pub shared : (v : ℕ) (e : Edit R) (t b : Laid) → edit_of es v ≡ Some e → slice_get trees v ≡ Some t → slice_get trees (base_of e) ≡ Some b →
         Shared b t (node_count (edits_before es v)) (node_count (edits_before es v) + written_by (edits_before es v) e)
 
--- every block's row is the store's at its number
+-- the store has each block's row under the block's number
 abbrev pub RowsStand : {R : Type 0} → List (List R) → List (Item R) → Type 0
 RowsStand rows xs = AllByRecursion (λ x. slice_get rows x.content.number ≡ Some x.content.row) xs
 

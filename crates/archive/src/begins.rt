@@ -15,7 +15,7 @@ fn is_empty(nodes: usize, versions: usize) -> bool
 }
 
 // Writes the lead's leaf and the record of version 0; where either table is empty, nothing.
-pub(crate) fn begin_in<Q: Summary + Copy>(nodes: &mut [Node<Q>], versions: &mut [Version]) -> Begun
+pub(crate) fn begin_in<Q: Summary>(nodes: &mut [Node<Q>], versions: &mut [Version]) -> Begun
     ensures { Begin Q.Summary.means nodes.old versions.old result nodes.new versions.new }
 {
     if is_empty(nodes.len(), versions.len()) {

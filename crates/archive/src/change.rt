@@ -1,6 +1,7 @@
 // A change: the look, the row into the store, its block, the walk, the record.
-ghost use Rattle.std.specs.Prelude.{◌<◌, OnOk};
+ghost use Rattle.std.specs.Prelude.{◌<◌, ◌≤◌, OnOk, IfOk};
 ghost use Rattle.archive.specs.Stands.{tables_of};
+ghost use Rattle.archive.specs.Calling as asked;
 ghost use Rattle.archive.specs.Editing.{EditLeft, ChangeLaw};
 
 use crate::block::block_of;
@@ -12,7 +13,7 @@ use store::{BlockStore, Cause};
 use summary::Summary;
 
 // Changes a block of the tables: answers the root of the new version and the next free node.
-pub(crate) fn change_in<S: BlockStore, Q: Summary<Reading = S::Reading> + Copy>(
+pub(crate) fn change_in<S: BlockStore, Q: Summary<Reading = S::Reading>>(
     nodes: &mut [Node<Q>],
     used: u32,
     versions: &mut [Version],
@@ -22,9 +23,13 @@ pub(crate) fn change_in<S: BlockStore, Q: Summary<Reading = S::Reading> + Copy>(
     place: u32,
     row: &[S::Reading],
 ) -> Result<Built, EditFault>
-    ensures left { EditLeft Q.Summary.means S.BlockStore (tables_of nodes.old used versions.old count) store.old row.now result nodes.new versions.new store.new }
-    ensures law { ChangeLaw Q.Summary.means S.BlockStore (tables_of nodes.old used versions.old count) store.old base place row.now result nodes.new versions.new store.new }
+    ensures left { EditLeft Q.Summary.means S.BlockStore (tables_of nodes.old used versions.old count)
+        store.old (asked.Asked.change base place row.now) result nodes.new versions.new
+        store.new }
+    ensures law { ChangeLaw Q.Summary.means S.BlockStore (tables_of nodes.old used versions.old count)
+        store.old base place row.now result nodes.new versions.new store.new }
     ensures room { OnOk result (count < 4096) }
+    ensures more { IfOk result (λ built. used ≤ built.used) }
 {
     let from = look_change(nodes, used, versions, count, base, place, row.len())?;
     let block = block_of(store.put(row)?, row);

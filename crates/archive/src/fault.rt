@@ -4,7 +4,7 @@ ghost use Rattle.archive.specs.declared.fault.EditFault.TheVariants.{Store};
 
 use store::Cause;
 
-// Why an edit is refused; the first that holds is answered.
+// Why an edit is refused: of all causes that there are, the one that stands highest here.
 #[derive(Clone, Copy, PartialEq, Eq, Debug)]
 pub enum EditFault {
     // There is no such version.

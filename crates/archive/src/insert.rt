@@ -1,6 +1,7 @@
 // An insert: the look, the row into the store, its block, the walk, the record.
-ghost use Rattle.std.specs.Prelude.{◌<◌, OnOk};
+ghost use Rattle.std.specs.Prelude.{◌<◌, ◌≤◌, OnOk, IfOk};
 ghost use Rattle.archive.specs.Stands.{tables_of};
+ghost use Rattle.archive.specs.Calling as asked;
 ghost use Rattle.archive.specs.Editing.{EditLeft, InsertLaw};
 
 use crate::block::block_of;
@@ -12,7 +13,7 @@ use store::{BlockStore, Cause};
 use summary::Summary;
 
 // Inserts a row into the tables: answers the root of the new version and the next free node.
-pub(crate) fn insert_in<S: BlockStore, Q: Summary<Reading = S::Reading> + Copy>(
+pub(crate) fn insert_in<S: BlockStore, Q: Summary<Reading = S::Reading>>(
     nodes: &mut [Node<Q>],
     used: u32,
     versions: &mut [Version],
@@ -23,9 +24,13 @@ pub(crate) fn insert_in<S: BlockStore, Q: Summary<Reading = S::Reading> + Copy>(
     level: u8,
     row: &[S::Reading],
 ) -> Result<Built, EditFault>
-    ensures left { EditLeft Q.Summary.means S.BlockStore (tables_of nodes.old used versions.old count) store.old row.now result nodes.new versions.new store.new }
-    ensures law { InsertLaw Q.Summary.means S.BlockStore (tables_of nodes.old used versions.old count) store.old base place level row.now result nodes.new versions.new store.new }
+    ensures left { EditLeft Q.Summary.means S.BlockStore (tables_of nodes.old used versions.old count)
+        store.old (asked.Asked.insert base place level row.now) result nodes.new
+        versions.new store.new }
+    ensures law { InsertLaw Q.Summary.means S.BlockStore (tables_of nodes.old used versions.old count)
+        store.old base place level row.now result nodes.new versions.new store.new }
     ensures room { OnOk result (count < 4096) }
+    ensures more { IfOk result (λ built. used ≤ built.used) }
 {
     let from = look_insert(nodes, used, versions, count, base, place, level, row.len())?;
     let block = block_of(store.put(row)?, row);

@@ -16,6 +16,6 @@ mod table;
 mod version;
 
 pub use fault::{EditFault, ReadFault};
-pub use steps::steps_stand;
+pub use steps::{nodes_hold, steps_stand};
 pub use table::{Accepted, NodeTable};
 pub use version::{Kind, Version};

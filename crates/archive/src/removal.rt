@@ -1,7 +1,8 @@
 // A removal: the look, the walk, the record. The store is not touched: it is named for the law, by which it still stands for the edits.
-ghost use Rattle.std.specs.Prelude.{◌<◌, OnOk};
+ghost use Rattle.std.specs.Prelude.{◌<◌, ◌≤◌, OnOk, IfOk};
 ghost use Rattle.archive.specs.Stands.{tables_of};
-ghost use Rattle.archive.specs.Editing.{RemovalLeft, RemovalLaw};
+ghost use Rattle.archive.specs.Calling as asked;
+ghost use Rattle.archive.specs.Editing.{EditLeft, RemovalLaw};
 
 use crate::fault::EditFault;
 use crate::look::look_removal;
@@ -11,7 +12,7 @@ use store::BlockStore;
 use summary::Summary;
 
 // Removes a block from the tables: answers the root of the new version and the next free node.
-pub(crate) fn removal_in<S: BlockStore, Q: Summary<Reading = S::Reading> + Copy>(
+pub(crate) fn removal_in<S: BlockStore, Q: Summary<Reading = S::Reading>>(
     nodes: &mut [Node<Q>],
     used: u32,
     versions: &mut [Version],
@@ -20,9 +21,13 @@ pub(crate) fn removal_in<S: BlockStore, Q: Summary<Reading = S::Reading> + Copy>
     base: u32,
     place: u32,
 ) -> Result<Built, EditFault>
-    ensures left { RemovalLeft (tables_of nodes.old used versions.old count) result nodes.new versions.new }
-    ensures law { RemovalLaw Q.Summary.means S.BlockStore.rows (tables_of nodes.old used versions.old count) store.now base place result nodes.new versions.new }
+    ensures left { EditLeft Q.Summary.means S.BlockStore (tables_of nodes.old used versions.old count)
+        store.now (asked.Asked.removal base place) result nodes.new versions.new store.now }
+    ensures law { RemovalLaw Q.Summary.means S.BlockStore.rows
+        (tables_of nodes.old used versions.old count) store.now base place result nodes.new
+        versions.new }
     ensures room { OnOk result (count < 4096) }
+    ensures more { IfOk result (λ built. used ≤ built.used) }
 {
     let from = look_removal(nodes, used, versions, count, base, place)?;
     let built = write_removal(nodes, used, from.root, place + 1);

@@ -1,11 +1,13 @@
 // The node table of an archive.
+ghost use Rattle.std.specs.Prelude.{◌≡◌};
+
 use nodes::Node;
 
 mod asks;
 mod calls;
 mod edits;
 
-// What an accepted edit answers: the new version's number, and how many nodes it wrote.
+// What an accepted edit answers: under which number its version goes, and how many nodes it wrote.
 #[derive(Clone, Copy, PartialEq, Eq, Debug)]
 pub struct Accepted {
     pub version: u32,
@@ -15,9 +17,21 @@ pub struct Accepted {
 // The caller's nodes, how many of them are in use, and how many versions there are. A slice and how much of it is used, and no vector: the caller's memory
 // is the project's rule, and there is no heap.
 // That a call keeps the reference to them stands as a clause `lender` at each call: an invariant of the type speaks of one value, and not of two.
-#[derive(Drop)]
 pub struct NodeTable<'a, Q> {
     nodes: &'a mut [Node<Q>],
     used: u32,
     count: u32,
+}
+
+// Letting a table go leaves the caller's nodes as the last call left them.
+impl<Q> Drop for NodeTable<'_, Q> {
+    fn drop(self)
+        ensures { self.exit.0.now ≡ self.entry.nodes.now }
+    {
+        let NodeTable {
+            nodes: _,
+            used: _,
+            count: _,
+        } = self;
+    }
 }

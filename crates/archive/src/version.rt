@@ -1,6 +1,6 @@
 // What is recorded of a version.
 ghost use Rattle.std.specs.Prelude.{◌≡◌, ◌-◌, ◌≤◌};
-ghost use Rattle.archive.specs.Records.{begun_record};
+ghost use Rattle.archive.specs.Records.{kind_number, begun_record};
 
 use nodes::Built;
 
@@ -12,6 +12,24 @@ pub enum Kind {
     Insert = 2,
     Change = 3,
     Removal = 4,
+}
+
+// The same numbers for who casts a kind.
+const _: () = prove!(Kind::Begun as u8 == 0);
+
+const _: () = prove!(Kind::Insert as u8 == 2);
+
+const _: () = prove!(Kind::Change as u8 == 3);
+
+const _: () = prove!(Kind::Removal as u8 == 4);
+
+impl Kind {
+    // The number of a kind of edit: its kind byte in a journal, and 0 for version 0.
+    pub fn number(&self) -> u8
+        ensures { result ≡ kind_number self.now }
+    {
+        *self as u8
+    }
 }
 
 // A version's record. What an edit does not have is 0; `Version::default()` is a record that no archive has written.

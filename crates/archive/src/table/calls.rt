@@ -1,9 +1,10 @@
 // The calls of an archive. Versions and store come with each call, by the project's rule; the nodes are the table's. An edit takes time in proportion to
 // its path, and to its row. Each is thin over a function with the same promise: that has a proof written by hand, and a fault here is then refused for the
 // fact that fails.
-ghost use Rattle.std.specs.Prelude.{◌≡◌};
+ghost use Rattle.std.specs.Prelude.{◌≡◌, ◌-◌, None, length};
 ghost use Rattle.archive.specs.Beginning.{Begin};
-ghost use Rattle.archive.specs.Asking.{SpanLeft};
+ghost use Rattle.archive.specs.Asking.{answer_by, position_refusal, stretch_refusal, output_refusal, ReadingEnds, SummaryEnds, SpanLeft};
+ghost use Rattle.archive.specs.Looking.{in_use};
 ghost use Rattle.archive.specs.Calling.{archive_of, EditKept, EditLaw, ReadingTold, SpanTold, SummaryTold};
 ghost use Rattle.archive.specs.Calling as asked;
 
@@ -16,11 +17,13 @@ use questions::Answer;
 use store::BlockStore;
 use summary::Summary;
 
-impl<'a, Q: Summary + Copy> NodeTable<'a, Q> {
-    // Begins an archive in the caller's tables: node 0 is the lead's leaf, version 0 the empty list. Where a table is empty there are no versions, and
-    // nothing is written. No store is touched; it may hold rows already.
+impl<'a, Q: Summary> NodeTable<'a, Q> {
+    // Begins an archive in the caller's tables: node 0 is the lead's leaf, version 0 the empty list. In tables of which one has no entry, nothing can be
+    // kept: they stay as they are, and the archive has no version. No store is touched; it may hold rows already.
     pub fn begin(nodes: &'a mut [Node<Q>], versions: &mut [Version]) -> NodeTable<'a, Q>
-        ensures begun { Begin Q.Summary.means nodes.old versions.old (record { used = result.used; count = result.count }) result.nodes.now versions.new }
+        ensures begun { Begin Q.Summary.means nodes.old versions.old
+            (record { used = result.used; count = result.count }) result.nodes.now
+            versions.new }
         ensures lender { result.nodes.ghost_name ≡ nodes.entry.ghost_name }
     {
         let begun = begin_in(nodes, versions);
@@ -32,7 +35,7 @@ impl<'a, Q: Summary + Copy> NodeTable<'a, Q> {
     }
 }
 
-impl<Q: Summary + Copy> NodeTable<'_, Q> {
+impl<Q: Summary> NodeTable<'_, Q> {
     // How many nodes are in use.
     pub fn used(&self) -> u32
         ensures { result ≡ self.now.used }
@@ -57,14 +60,18 @@ impl<Q: Summary + Copy> NodeTable<'_, Q> {
         level: u8,
         row: &[S::Reading],
     ) -> Result<Accepted, EditFault>
-        ensures kept { EditKept Q.Summary.means S.BlockStore (archive_of self.old versions.old store.old) (asked.Asked.insert base place level row.now) result (archive_of self.new versions.new store.new) }
-        ensures law { EditLaw Q.Summary.means S.BlockStore (archive_of self.old versions.old store.old) (asked.Asked.insert base place level row.now) result (archive_of self.new versions.new store.new) }
+        ensures kept { EditKept Q.Summary.means S.BlockStore (archive_of self.old versions.old store.old)
+            (asked.Asked.insert base place level row.now) result
+            (archive_of self.new versions.new store.new) }
+        ensures law { EditLaw Q.Summary.means S.BlockStore (archive_of self.old versions.old store.old)
+            (asked.Asked.insert base place level row.now) result
+            (archive_of self.new versions.new store.new) }
         ensures lender { self.new.nodes.ghost_name ≡ self.old.nodes.ghost_name }
     {
         self.insert_row(versions, store, base, place, level, row)
     }
 
-    // Puts a row in at the end, with level 0.
+    // Puts a row in behind the last block, at level 0.
     pub fn append<S: BlockStore<Reading = Q::Reading>>(
         &mut self,
         versions: &mut [Version],
@@ -72,8 +79,12 @@ impl<Q: Summary + Copy> NodeTable<'_, Q> {
         base: u32,
         row: &[S::Reading],
     ) -> Result<Accepted, EditFault>
-        ensures kept { EditKept Q.Summary.means S.BlockStore (archive_of self.old versions.old store.old) (asked.Asked.append base row.now) result (archive_of self.new versions.new store.new) }
-        ensures law { EditLaw Q.Summary.means S.BlockStore (archive_of self.old versions.old store.old) (asked.Asked.append base row.now) result (archive_of self.new versions.new store.new) }
+        ensures kept { EditKept Q.Summary.means S.BlockStore (archive_of self.old versions.old store.old)
+            (asked.Asked.append base row.now) result
+            (archive_of self.new versions.new store.new) }
+        ensures law { EditLaw Q.Summary.means S.BlockStore (archive_of self.old versions.old store.old)
+            (asked.Asked.append base row.now) result
+            (archive_of self.new versions.new store.new) }
         ensures lender { self.new.nodes.ghost_name ≡ self.old.nodes.ghost_name }
     {
         self.append_row(versions, store, base, row)
@@ -88,8 +99,12 @@ impl<Q: Summary + Copy> NodeTable<'_, Q> {
         place: u32,
         row: &[S::Reading],
     ) -> Result<Accepted, EditFault>
-        ensures kept { EditKept Q.Summary.means S.BlockStore (archive_of self.old versions.old store.old) (asked.Asked.change base place row.now) result (archive_of self.new versions.new store.new) }
-        ensures law { EditLaw Q.Summary.means S.BlockStore (archive_of self.old versions.old store.old) (asked.Asked.change base place row.now) result (archive_of self.new versions.new store.new) }
+        ensures kept { EditKept Q.Summary.means S.BlockStore (archive_of self.old versions.old store.old)
+            (asked.Asked.change base place row.now) result
+            (archive_of self.new versions.new store.new) }
+        ensures law { EditLaw Q.Summary.means S.BlockStore (archive_of self.old versions.old store.old)
+            (asked.Asked.change base place row.now) result
+            (archive_of self.new versions.new store.new) }
         ensures lender { self.new.nodes.ghost_name ≡ self.old.nodes.ghost_name }
     {
         self.change_row(versions, store, base, place, row)
@@ -103,14 +118,18 @@ impl<Q: Summary + Copy> NodeTable<'_, Q> {
         base: u32,
         place: u32,
     ) -> Result<Accepted, EditFault>
-        ensures kept { EditKept Q.Summary.means S.BlockStore (archive_of self.old versions.old store.now) (asked.Asked.removal base place) result (archive_of self.new versions.new store.now) }
-        ensures law { EditLaw Q.Summary.means S.BlockStore (archive_of self.old versions.old store.now) (asked.Asked.removal base place) result (archive_of self.new versions.new store.now) }
+        ensures kept { EditKept Q.Summary.means S.BlockStore (archive_of self.old versions.old store.now)
+            (asked.Asked.removal base place) result
+            (archive_of self.new versions.new store.now) }
+        ensures law { EditLaw Q.Summary.means S.BlockStore (archive_of self.old versions.old store.now)
+            (asked.Asked.removal base place) result
+            (archive_of self.new versions.new store.now) }
         ensures lender { self.new.nodes.ghost_name ≡ self.old.nodes.ghost_name }
     {
         self.remove_block(versions, store, base, place)
     }
 
-    // The reading at a position of a version, and the length of the path to its block.
+    // What was read at a position of a version, and how many nodes lead to the block that has it.
     pub fn reading<S: BlockStore<Reading = Q::Reading>>(
         &self,
         versions: &[Version],
@@ -118,12 +137,16 @@ impl<Q: Summary + Copy> NodeTable<'_, Q> {
         version: u32,
         position: u32,
     ) -> Result<Answer<S::Reading>, ReadFault>
-        ensures law { ReadingTold Q.Summary.means S.BlockStore (archive_of self.now versions.now store.now) version position result }
+        ensures ends { ReadingEnds (position_refusal position (in_use versions.now self.now.count version))
+            result }
+        ensures law { ReadingTold Q.Summary.means S.BlockStore
+            (archive_of self.now versions.now store.now) version position result }
     {
         self.read_one(versions, store, version, position)
     }
 
-    // Writes the readings a to b − 1 of a version to the output's start, and answers how many; the rest of the output stays.
+    // Copies what a version has from position a on, up to b and without it, to the output's start, and answers how many readings that are. Further places
+    // of the output keep what they had.
     pub fn span<S: BlockStore<Reading = Q::Reading>>(
         &self,
         versions: &[Version],
@@ -133,8 +156,11 @@ impl<Q: Summary + Copy> NodeTable<'_, Q> {
         b: u32,
         out: &mut [S::Reading],
     ) -> Result<u32, ReadFault>
+        ensures ends { let short = output_refusal a b (length out.old) in
+            result ≡ answer_by (stretch_refusal a b (in_use versions.now self.now.count version) short) (b - a) }
         ensures left { SpanLeft a b out.old result out.new }
-        ensures law { SpanTold Q.Summary.means S.BlockStore (archive_of self.now versions.now store.now) version a b out.old result out.new }
+        ensures law { SpanTold Q.Summary.means S.BlockStore (archive_of self.now versions.now store.now)
+            version a b out.old result out.new }
     {
         self.copy_span(versions, store, version, a, b, out)
     }
@@ -148,7 +174,10 @@ impl<Q: Summary + Copy> NodeTable<'_, Q> {
         a: u32,
         b: u32,
     ) -> Result<Q, ReadFault>
-        ensures law { SummaryTold Q.Summary.means S.BlockStore (archive_of self.now versions.now store.now) version a b result }
+        ensures ends { SummaryEnds (stretch_refusal a b (in_use versions.now self.now.count version) None)
+            result }
+        ensures law { SummaryTold Q.Summary.means S.BlockStore
+            (archive_of self.now versions.now store.now) version a b result }
     {
         self.sum_span(versions, store, version, a, b)
     }

@@ -14,7 +14,7 @@ use nodes::Built;
 use store::BlockStore;
 use summary::Summary;
 
-impl<Q: Summary + Copy> NodeTable<'_, Q> {
+impl<Q: Summary> NodeTable<'_, Q> {
     // Takes in what an edit wrote, and answers for it.
     fn take_in(&mut self, built: Built) -> Accepted
         requires { (self.old.used ≤ built.used) × (self.old.count < 4096) }
@@ -41,8 +41,12 @@ impl<Q: Summary + Copy> NodeTable<'_, Q> {
         level: u8,
         row: &[S::Reading],
     ) -> Result<Accepted, EditFault>
-        ensures kept { EditKept Q.Summary.means S.BlockStore (archive_of self.old versions.old store.old) (asked.Asked.insert base place level row.now) result (archive_of self.new versions.new store.new) }
-        ensures law { EditLaw Q.Summary.means S.BlockStore (archive_of self.old versions.old store.old) (asked.Asked.insert base place level row.now) result (archive_of self.new versions.new store.new) }
+        ensures kept { EditKept Q.Summary.means S.BlockStore (archive_of self.old versions.old store.old)
+            (asked.Asked.insert base place level row.now) result
+            (archive_of self.new versions.new store.new) }
+        ensures law { EditLaw Q.Summary.means S.BlockStore (archive_of self.old versions.old store.old)
+            (asked.Asked.insert base place level row.now) result
+            (archive_of self.new versions.new store.new) }
         ensures lender { self.new.nodes.ghost_name ≡ self.old.nodes.ghost_name }
     {
         let used = self.used;
@@ -64,8 +68,12 @@ impl<Q: Summary + Copy> NodeTable<'_, Q> {
         base: u32,
         row: &[S::Reading],
     ) -> Result<Accepted, EditFault>
-        ensures kept { EditKept Q.Summary.means S.BlockStore (archive_of self.old versions.old store.old) (asked.Asked.append base row.now) result (archive_of self.new versions.new store.new) }
-        ensures law { EditLaw Q.Summary.means S.BlockStore (archive_of self.old versions.old store.old) (asked.Asked.append base row.now) result (archive_of self.new versions.new store.new) }
+        ensures kept { EditKept Q.Summary.means S.BlockStore (archive_of self.old versions.old store.old)
+            (asked.Asked.append base row.now) result
+            (archive_of self.new versions.new store.new) }
+        ensures law { EditLaw Q.Summary.means S.BlockStore (archive_of self.old versions.old store.old)
+            (asked.Asked.append base row.now) result
+            (archive_of self.new versions.new store.new) }
         ensures lender { self.new.nodes.ghost_name ≡ self.old.nodes.ghost_name }
     {
         let from = version_at(versions, self.count, base).ok_or(EditFault::Version)?;
@@ -80,8 +88,12 @@ impl<Q: Summary + Copy> NodeTable<'_, Q> {
         place: u32,
         row: &[S::Reading],
     ) -> Result<Accepted, EditFault>
-        ensures kept { EditKept Q.Summary.means S.BlockStore (archive_of self.old versions.old store.old) (asked.Asked.change base place row.now) result (archive_of self.new versions.new store.new) }
-        ensures law { EditLaw Q.Summary.means S.BlockStore (archive_of self.old versions.old store.old) (asked.Asked.change base place row.now) result (archive_of self.new versions.new store.new) }
+        ensures kept { EditKept Q.Summary.means S.BlockStore (archive_of self.old versions.old store.old)
+            (asked.Asked.change base place row.now) result
+            (archive_of self.new versions.new store.new) }
+        ensures law { EditLaw Q.Summary.means S.BlockStore (archive_of self.old versions.old store.old)
+            (asked.Asked.change base place row.now) result
+            (archive_of self.new versions.new store.new) }
         ensures lender { self.new.nodes.ghost_name ≡ self.old.nodes.ghost_name }
     {
         let used = self.used;
@@ -100,8 +112,12 @@ impl<Q: Summary + Copy> NodeTable<'_, Q> {
         base: u32,
         place: u32,
     ) -> Result<Accepted, EditFault>
-        ensures kept { EditKept Q.Summary.means S.BlockStore (archive_of self.old versions.old store.now) (asked.Asked.removal base place) result (archive_of self.new versions.new store.now) }
-        ensures law { EditLaw Q.Summary.means S.BlockStore (archive_of self.old versions.old store.now) (asked.Asked.removal base place) result (archive_of self.new versions.new store.now) }
+        ensures kept { EditKept Q.Summary.means S.BlockStore (archive_of self.old versions.old store.now)
+            (asked.Asked.removal base place) result
+            (archive_of self.new versions.new store.now) }
+        ensures law { EditLaw Q.Summary.means S.BlockStore (archive_of self.old versions.old store.now)
+            (asked.Asked.removal base place) result
+            (archive_of self.new versions.new store.now) }
         ensures lender { self.new.nodes.ghost_name ≡ self.old.nodes.ghost_name }
     {
         let used = self.used;

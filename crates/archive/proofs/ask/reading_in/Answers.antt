@@ -12,4 +12,4 @@ returns-then-from-position-clause-law g c = λ es used st.
 pub returns-clause-law : goal.returns-clause-law
 returns-clause-law g c = λ es used st.
     let q : in_use c.args.versions.now c.args.count c.args.version ≡ Some c.in_ok-from.from = sym c.version_at.ensures ∙ c.in_ok-from.ensures.ok_part in
-    c.ok_or-2.ensures.value ∙ reading_told g.Q.Summary.means g.S.BlockStore.rows (tables_of c.args.nodes.now used c.args.versions.now c.args.count) c.args.store.now es st c.args.version c.in_ok-from.from q c.args.position c.if-from-position.false c.reading.result c.reading.ensures
+    c.ok_or-2.ensures.value ∙ reading_told g.Q.Summary.means g.S.BlockStore.rows (tables_of c.args.nodes.now used c.args.versions.now c.args.count) c.args.store.now es st c.args.version c.in_ok-from.from q c.args.position c.if-from-position.false c.reading.result c.reading.ensures.read

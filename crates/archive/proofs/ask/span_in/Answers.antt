@@ -28,4 +28,4 @@ returns-clause-law g c = λ es used st.
     let n = c.args.b - c.args.a in
     let q : in_use c.args.versions.now c.args.count c.args.version ≡ Some c.in_ok-from.from = sym c.version_at.ensures ∙ c.in_ok-from.ensures.ok_part in
     span_there g.Q.Summary.means g.S.BlockStore.rows (tables_of c.args.nodes.now used c.args.versions.now c.args.count) c.args.store.now es st c.args.version c.args.a c.args.b c.in_ok-from.from q
-    (take n c.args.out.now) c.span.new.out c.args.out.now (sym c.if-outside.ensures) c.if-out-n.false (length-take-le n c.args.out.now c.if-out-n.false) c.span.ensures
+    (take n c.args.out.now) c.span.new.out c.args.out.now (sym c.if-outside.ensures) c.if-out-n.false (length-take-le n c.args.out.now c.if-out-n.false) c.span.ensures.spanned

@@ -13,4 +13,4 @@ returns-then-outside-clause-law g c = λ es used st.
 pub returns-clause-law : goal.returns-clause-law
 returns-clause-law g c = λ es used st.
     let q : in_use c.args.versions.now c.args.count c.args.version ≡ Some c.in_ok-from.from = sym c.version_at.ensures ∙ c.in_ok-from.ensures.ok_part in
-    summary_there g.Q.Summary.means g.S.BlockStore.rows _ c.args.store.now es st c.args.version c.args.a c.args.b c.in_ok-from.from q c.summary.result (sym c.if-outside.ensures) c.summary.ensures
+    summary_there g.Q.Summary.means g.S.BlockStore.rows _ c.args.store.now es st c.args.version c.args.a c.args.b c.in_ok-from.from q c.summary.result (sym c.if-outside.ensures) c.summary.ensures.summed

@@ -1,7 +1,7 @@
 use Rattle.std.proofs.Common.{◌≡◌, Some, sym, ◌∙◌}
 use Rattle.std.proofs.lemmas.Result.{err_from_is_err_and}
 use Rattle.archive.specs.Looking.{in_use}
-use Rattle.archive.proofs.Looks.{insert_misplaced, insert_lost, insert_refused, insert_fine}
+use Rattle.archive.proofs.Looks.{insert_misplaced, insert_stopped, insert_lost, insert_few, insert_fine}
 use Rattle.archive.proofs.look.look_insert.Goals as goal
 
 pub returns-then-from-place-clause-looked : goal.returns-then-from-place-clause-looked
@@ -9,22 +9,27 @@ returns-then-from-place-clause-looked g c = λ es st.
     let q : in_use c.args.versions.now c.args.count c.args.base ≡ Some c.in_ok-from.from = sym c.version_at.ensures ∙ c.in_ok-from.ensures.ok_part in
     insert_misplaced g.Q.Summary.means _ es st c.args.base c.args.place c.args.level c.args.len c.in_ok-from.from q c.if-from-place.true
 
+pub returns-in_err-early_fault-clause-looked : goal.returns-in_err-early_fault-clause-looked
+returns-in_err-early_fault-clause-looked g c =
+    let p = err_from_is_err_and c.from_residual-in_err-early_fault.result c.from_residual-in_err-early_fault.ensures.1 in
+    let q : in_use c.args.versions.now c.args.count c.args.base ≡ Some c.in_ok-from.from = sym c.version_at.ensures ∙ c.in_ok-from.ensures.ok_part in
+    let tried = rw c.is_full.ensures at c.in_err-early_fault.ensures in
+    rw (p.1, p.2) (λ es st.
+    insert_stopped g.Q.Summary.means _ es st c.args.base c.args.place c.args.level c.args.len c.in_ok-from.from q c.if-from-place.false _ (sym tried))
+
 pub returns-in_err-way-clause-looked : goal.returns-in_err-way-clause-looked
 returns-in_err-way-clause-looked g c = λ es st.
     let q : in_use c.args.versions.now c.args.count c.args.base ≡ Some c.in_ok-from.from = sym c.version_at.ensures ∙ c.in_ok-from.ensures.ok_part in
-    absurd (insert_lost g.Q.Summary.means _ es st c.args.base c.args.place c.in_ok-from.from q c.if-from-place.false (rw c.in_err-way.ensures.ok_part at c.path.ensures))
+    absurd (insert_lost g.Q.Summary.means _ es st c.args.base c.args.place c.in_ok-from.from q c.if-from-place.false (rw c.in_err-way.ensures.ok_part at c.path.ensures.counted))
 
-pub returns-in_err-later_fault-clause-looked : goal.returns-in_err-later_fault-clause-looked
-returns-in_err-later_fault-clause-looked g c =
-    let p = err_from_is_err_and c.from_residual-in_err-later_fault.result c.from_residual-in_err-later_fault.ensures.1 in
+pub returns-then-not-has_free-clause-looked : goal.returns-then-not-has_free-clause-looked
+returns-then-not-has_free-clause-looked g c = λ es st.
     let q : in_use c.args.versions.now c.args.count c.args.base ≡ Some c.in_ok-from.from = sym c.version_at.ensures ∙ c.in_ok-from.ensures.ok_part in
-    let tried = rw (c.is_full.ensures, c.free_nodes-free.ensures) at c.in_err-later_fault.ensures in
-    rw (p.1, p.2) (λ es st.
-    insert_refused g.Q.Summary.means _ es st c.args.base c.args.place c.args.level c.args.len c.in_ok-from.from q c.if-from-place.false c.in_ok-way.way (rw c.in_ok-way.ensures.ok_part at c.path.ensures) _ (sym tried))
+    let tried = rw c.is_full.ensures at c.in_ok-early_fault.ensures in
+    insert_few g.Q.Summary.means _ es st c.args.base c.args.place c.args.level c.args.len c.in_ok-from.from q c.if-from-place.false (sym tried) c.in_ok-way.way (rw c.in_ok-way.ensures.ok_part at c.path.ensures.counted) (sym (rw c.from.ensures at c.has_free.ensures) ∙ c.if-not-has_free.true)
 
 pub returns-clause-looked : goal.returns-clause-looked
-returns-clause-looked g c =
+returns-clause-looked g c = λ es st.
     let q : in_use c.args.versions.now c.args.count c.args.base ≡ Some c.in_ok-from.from = sym c.version_at.ensures ∙ c.in_ok-from.ensures.ok_part in
-    let tried = rw (c.is_full.ensures, c.free_nodes-free.ensures) at c.in_ok-later_fault.ensures in
-    λ es st.
-    insert_fine g.Q.Summary.means _ es st c.args.base c.args.place c.args.level c.args.len c.in_ok-from.from q c.if-from-place.false c.in_ok-way.way (rw c.in_ok-way.ensures.ok_part at c.path.ensures) (sym tried)
+    let tried = rw c.is_full.ensures at c.in_ok-early_fault.ensures in
+    insert_fine g.Q.Summary.means _ es st c.args.base c.args.place c.args.level c.args.len c.in_ok-from.from q c.if-from-place.false (sym tried) c.in_ok-way.way (rw c.in_ok-way.ensures.ok_part at c.path.ensures.counted) (sym (rw c.from.ensures at c.has_free.ensures) ∙ c.if-not-has_free.false)

@@ -2,7 +2,12 @@ use Rattle.std.proofs.Common.{refl, ap}
 use Rattle.archive.proofs.Calls.{same_archive, removal_ok}
 use Rattle.archive.proofs.table.NodeTable.remove_block.Goals as goal
 
+pub returns-clause-kept : goal.returns-clause-kept
+returns-clause-kept g c =
+    let same = same_archive c.take_in.new.self.nodes.now c.removal_in.new.nodes c.take_in.new.self.used c.in_ok-built.built.used c.removal_in.new.versions c.removal_in.new.versions c.take_in.new.self.count _ c.args.store.now c.args.store.now (ap (λ x. x.now) c.take_in.ensures.nodes) c.take_in.ensures.used refl c.take_in.ensures.count refl in
+    rw (c.take_in.ensures.answer, same) c.in_ok-built.ensures.left
+
 pub returns-clause-law : goal.returns-clause-law
 returns-clause-law g c =
     let same = same_archive c.take_in.new.self.nodes.now c.removal_in.new.nodes c.take_in.new.self.used c.in_ok-built.built.used c.removal_in.new.versions c.removal_in.new.versions c.take_in.new.self.count _ c.args.store.now c.args.store.now (ap (λ x. x.now) c.take_in.ensures.nodes) c.take_in.ensures.used refl c.take_in.ensures.count refl in
-    rw (c.take_in.ensures.answer, same) (removal_ok g.Q.Summary.means g.S.BlockStore _ _ c.removal_in.auto.nodes _ c.args.store.now c.in_ok-built.built c.in_ok-built.ensures.left c.args.base c.args.place c.in_ok-built.ensures.law c.if-count-base.false)
+    rw (c.take_in.ensures.answer, same) (removal_ok g.Q.Summary.means g.met.Q.Summary.lawful g.S.BlockStore _ _ _ _ c.in_ok-built.built c.args.base c.args.place c.in_ok-built.ensures.left refl c.in_ok-built.ensures.law c.if-count-base.false)
