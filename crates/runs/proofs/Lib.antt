@@ -1,5 +1,5 @@
 pub mod Lawful
 pub mod Outputs
-pub mod Replies
+pub mod Lists
 pub mod Beginnings
-pub mod Holding
+pub mod Ones

@@ -1,13 +1,14 @@
 -- A part of an output from a place on, and that part put back. Assumes nothing.
 use Rattle.store.specs.Keeping.{Keeping}
-use Rattle.std.proofs.Common.{◌≡◌, ℕ, ◌-◌, min, List, ◌++◌, length, take, drop, Result, ap, ◌∙◌, subst, append-nil, arith, length-drop, drop_of_length-le, take_all}
+use Rattle.std.proofs.Common.{◌≡◌, ℕ, ◌-◌, min, List, ◌++◌, length, take, drop, Result, refl, ap, ◌∙◌, subst, append-nil, arith, length-drop, drop_of_length-le, take_all}
 use Rattle.std.proofs.lemmas.List.{drop_min, take_min}
 use borrow.Rule.Slice.PartMut.{put_mid}
 use Rattle.summary.specs.Summing.{Summing}
 use Rattle.archive.specs.declared.fault.ReadFault.{ReadFault}
-use Rattle.archive.specs.Asking.{SpanLeft}
+use Rattle.archive.specs.Asking.{answer_by, stretch_refusal, output_refusal, SpanLeft}
 use Rattle.archive.specs.Calling.{Archive, SpanTold}
-use Rattle.runs.specs.Calls.{SpanInto}
+use Rattle.runs.specs.Calls.{record_in}
+use Rattle.runs.specs.Lists.{SpanInto}
 
 module _ {A : Type 0} (to at : ℕ) (out : List A) (is : at ≡ min to (length out)) where
   drop_cut : drop at out ≡ drop to out
@@ -27,13 +28,13 @@ module _ {A : Type 0} (to at : ℕ) (out : List A) (is : at ≡ min to (length o
       ap (λ z. take at out ++ (ys ++ z)) (drop_of_length-le (drop at out) {i = length out - at} (omega arith)) ∙ (ap (λ z. take at out ++ z) (append-nil ys) ∙ ap (λ z. z ++ ys) take_cut)
 
 module _ {R Q S : Type 0} (means : Summing R Q) (keeps : Keeping S R) (s : Archive Q S) (v a b to at : ℕ) (out rest : List R) (r : Result ℕ ReadFault) (is : at ≡ min to (length out)) where
-  pub spanned : SpanLeft a b (take (length out - at) (drop at out)) r rest → SpanTold means keeps s v a b (take (length out - at) (drop at out)) r rest
+  pub spanned : r ≡ answer_by (stretch_refusal a b (record_in s v) (output_refusal a b (length (take (length out - at) (drop at out))))) (b - a)
+      → SpanLeft a b (take (length out - at) (drop at out)) r rest → SpanTold means keeps s v a b (take (length out - at) (drop at out)) r rest
       → SpanInto means keeps s v a b to out r (put_mid at (length out - at) out rest)
-  spanned left law =
+  spanned ends left law =
       let part = lent_part to at out is in
       record {
-        rest = rest;
-        left = subst (λ l. SpanLeft a b l r rest) part left;
-        law = subst (λ l. SpanTold means keeps s v a b l r rest) part law;
+        after = rest;
+        contract = (subst (λ l. SpanLeft a b l r rest) part left, subst (λ l. SpanTold means keeps s v a b l r rest) part law, refl, subst (λ l. r ≡ answer_by (stretch_refusal a b (record_in s v) (output_refusal a b (length l))) (b - a)) part ends);
         output = part_back to at out is rest;
       }

@@ -1,90 +1,53 @@
--- A call as it is asked, and what it says of itself: the contracts of the archive's calls, in one relation. Assumes nothing.
+-- A call on an archive as it is asked, what comes of it, and what its contract says of the two. Assumes nothing.
 use Rattle.store.specs.Keeping.{Keeping}
-use Rattle.std.specs.Prelude.{◌≡◌, ℕ, ◌+◌, cond, List, [], ◌∷◌, ◌++◌, length, take, drop, Result, nat_le}
+use Rattle.std.specs.Prelude.{◌≡◌, ℕ, ◌-◌, List, [], ◌∷◌, length, None, Option, Result}
 use Rattle.summary.specs.Summing.{Summing}
 use Rattle.questions.specs.declared.found.Answer.{Answer}
 use Rattle.archive.specs.declared.fault.EditFault.{EditFault}
 use Rattle.archive.specs.declared.fault.ReadFault.{ReadFault}
 use Rattle.archive.specs.declared.table.Accepted.{Accepted}
-use Rattle.archive.specs.Asking.{SpanLeft}
-use Rattle.archive.specs.Calling.{Archive, Asked, insert, append, change, removal, EditKept, EditLaw, ReadingTold, SpanTold, SummaryTold}
-use Rattle.runs.specs.declared.call.Call.{Call}
-use Rattle.runs.specs.declared.call.Call.TheVariants as call
-use Rattle.runs.specs.declared.reply.Reply.{Reply}
-use Rattle.runs.specs.declared.reply.Reply.TheVariants.{Edited, Read, Spanned, Summed}
+use Rattle.archive.specs.declared.version.Version.{Version}
+use Rattle.archive.specs.Asking.{answer_by, position_refusal, stretch_refusal, output_refusal, ReadingEnds, SummaryEnds, SpanLeft}
+use Rattle.archive.specs.Looking.{in_use}
+use Rattle.archive.specs.Calling.{Archive, Asked, EditKept, EditLaw, ReadingTold, SpanTold, SummaryTold}
 
--- an edit, or one of the three questions: version and position; version, a, b and the place in the output; version, a and b
-pub data Wanted (R : Type 0) : Type 0 where
-  edit : Asked R → Wanted R
-  reading : ℕ → ℕ → Wanted R
-  span : ℕ → ℕ → ℕ → ℕ → Wanted R
-  summary : ℕ → ℕ → ℕ → Wanted R
+-- An edit, or one of the three questions: version and position; version, a, b and the output that it is given; version, a and b.
+pub data Request (R : Type 0) : Type 0 where
+  edit : Asked R → Request R
+  reading : ℕ → ℕ → Request R
+  span : ℕ → ℕ → ℕ → List R → Request R
+  summary : ℕ → ℕ → ℕ → Request R
 
-module _ {R : Type 0} where
-  -- the row that a call names in the readings beside it; one that does not lie in them has no reading
-  abbrev pub row_named : List R → ℕ → ℕ → List R
-  row_named readings from len = cond (nat_le (from + len) (length readings)) (take len (drop from readings)) []
+-- Its answer, and of a span also what the output holds then.
+pub data Outcome (R Q : Type 0) : Type 0 where
+  edited : Result Accepted EditFault → Outcome R Q
+  read : Result (Answer R) ReadFault → Outcome R Q
+  spanned : Result ℕ ReadFault → List R → Outcome R Q
+  summed : Result Q ReadFault → Outcome R Q
 
-  abbrev pub wanted : List R → Call → Wanted R
-  wanted readings (call.Insert base place level from len) = edit (insert base place level (row_named readings from len))
-  wanted readings (call.Append base from len) = edit (append base (row_named readings from len))
-  wanted readings (call.Change base place from len) = edit (change base place (row_named readings from len))
-  wanted readings (call.Remove base place) = edit (removal base place)
-  wanted readings (call.Reading version position) = reading version position
-  wanted readings (call.Span version a b to) = span version a b to
-  wanted readings (call.Summary version a b) = summary version a b
-
--- what a run changes: the archive, and the output of its spans
-pub record Bench (Q S R : Type 0) : Type 0 where
-  pub archive : Archive Q S
-  pub output : List R
-
-abbrev pub bench_at : {R Q S : Type 0} → Archive Q S → List R → Bench Q S R
-bench_at archive output = record { archive = archive; output = output }
+-- the record of a version that is in use
+abbrev pub record_in : {Q S : Type 0} → Archive Q S → ℕ → Option Version
+record_in s v = in_use s.tables.versions s.tables.count v
 
 module _ {R Q S : Type 0} (means : Summing R Q) (keeps : Keeping S R) where
-  -- what the contract of each call says
-  pub record EditDid (s : Bench Q S R) (asked : Asked R) (a : Reply R Q) (t : Bench Q S R) : Type 0 where
-    pub result : Result Accepted EditFault
-    pub replied : a ≡ Edited result
-    pub kept : EditKept means keeps s.archive asked result t.archive
-    pub law : EditLaw means keeps s.archive asked result t.archive
-    pub output : t.output ≡ s.output
+  -- What the contract of a call says of its outcome, and of the archive before and after it. A question leaves the archive; no call has the
+  -- outcome of one of another sort.
+  abbrev pub Contract : Archive Q S → Request R → Outcome R Q → Archive Q S → Type 0
+  Contract s (edit asked) (edited r) t =
+      EditKept means keeps s asked r t × EditLaw means keeps s asked r t
+  Contract s (reading v position) (read r) t =
+      ReadingTold means keeps s v position r × (t ≡ s) × ReadingEnds (position_refusal position (record_in s v)) r
+  Contract s (span v a b out) (spanned r after) t =
+      SpanLeft a b out r after × SpanTold means keeps s v a b out r after × (t ≡ s) ×
+      (r ≡ answer_by (stretch_refusal a b (record_in s v) (output_refusal a b (length out))) (b - a))
+  Contract s (summary v a b) (summed r) t =
+      SummaryTold means keeps s v a b r × (t ≡ s) × SummaryEnds (stretch_refusal a b (record_in s v) None) r
+  Contract s request outcome t = ⊥
 
-  pub record ReadingDid (s : Bench Q S R) (v position : ℕ) (a : Reply R Q) (t : Bench Q S R) : Type 0 where
-    pub result : Result (Answer R) ReadFault
-    pub replied : a ≡ Read result
-    pub law : ReadingTold means keeps s.archive v position result
-    pub same : t ≡ s
-
-  -- a span into an output from a place on: what stands before the place stays, and the rest of the output is the span's
-  pub record SpanInto (s : Archive Q S) (v from upto to : ℕ) (out : List R) (result : Result ℕ ReadFault) (after : List R) : Type 0 where
-    pub rest : List R
-    pub left : SpanLeft from upto (drop to out) result rest
-    pub law : SpanTold means keeps s v from upto (drop to out) result rest
-    pub output : after ≡ take to out ++ rest
-
-  pub record SpanDid (s : Bench Q S R) (v from upto to : ℕ) (a : Reply R Q) (t : Bench Q S R) : Type 0 where
-    pub result : Result ℕ ReadFault
-    pub replied : a ≡ Spanned result
-    pub into : SpanInto s.archive v from upto to s.output result t.output
-    pub archive : t.archive ≡ s.archive
-
-  pub record SummaryDid (s : Bench Q S R) (v from upto : ℕ) (a : Reply R Q) (t : Bench Q S R) : Type 0 where
-    pub result : Result Q ReadFault
-    pub replied : a ≡ Summed result
-    pub law : SummaryTold means keeps s.archive v from upto result
-    pub same : t ≡ s
-
-  abbrev pub Did : Bench Q S R → Wanted R → Reply R Q → Bench Q S R → Type 0
-  Did s (edit asked) a t = EditDid s asked a t
-  Did s (reading v position) a t = ReadingDid s v position a t
-  Did s (span v from upto to) a t = SpanDid s v from upto to a t
-  Did s (summary v from upto) a t = SummaryDid s v from upto a t
-
-  -- calls one after another, each of which does what its contract says
-  abbrev pub Chain : Bench Q S R → List (Wanted R) → List (Reply R Q) → Bench Q S R → Type 0
+  -- Calls one after another, each of which does what its contract says. Each span has an output of its own: one of 12 readings into an
+  -- output of 10, which is refused, and then one into another output, of 20, are a chain.
+  abbrev pub Chain : Archive Q S → List (Request R) → List (Outcome R Q) → Archive Q S → Type 0
   Chain s [] [] t = t ≡ s
-  Chain s [] (a ∷ as') t = ⊥
-  Chain s (w ∷ ws) [] t = ⊥
-  Chain s (w ∷ ws) (a ∷ as') t = (u : Bench Q S R) × Did s w a u × Chain u ws as' t
+  Chain s (request ∷ requests) (outcome ∷ outcomes) t =
+      (u : Archive Q S) × Contract s request outcome u × Chain u requests outcomes t
+  Chain s requests outcomes t = ⊥

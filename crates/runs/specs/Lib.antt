@@ -1,3 +1,3 @@
 pub mod Calls
 pub mod Runs
-pub mod Held
+pub mod Lists

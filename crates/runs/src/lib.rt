@@ -4,10 +4,9 @@
 // `lender`: that the table stays the caller's slice speaks of two values, so that no invariant of its type can say it.
 #![tactic(auto)]
 
-ghost use Rattle.std.specs.Prelude.{◌≡◌, min, map, length, take, drop};
+ghost use Rattle.std.specs.Prelude.{◌≡◌, min, length, take, drop};
 ghost use Rattle.archive.specs.Calling.{archive_of};
-ghost use Rattle.runs.specs.Calls.{wanted, Chain, bench_at};
-ghost use Rattle.runs.specs.Runs.{Carried, CarriedOn};
+ghost use Rattle.runs.specs.Lists.{Carried, CarriedOn};
 
 use archive::{NodeTable, Version};
 use nodes::Node;
@@ -22,13 +21,13 @@ mod running;
 mod steps;
 
 pub use call::Call;
-pub use laws::{nodes_hold, runs_lawful};
+pub use laws::runs_lawful;
 pub use ran::Ran;
 pub use reply::Reply;
 
 // Begins an archive in the caller's tables, carries the calls out on it in their order, and writes the reply to each: as many calls as there are places
 // for replies. A call's row stands in `readings`, a span goes to `out`.
-pub fn carry_out<S: BlockStore, Q: Summary<Reading = S::Reading> + Copy>(
+pub fn carry_out<S: BlockStore, Q: Summary<Reading = S::Reading>>(
     nodes: &mut [Node<Q>],
     versions: &mut [Version],
     store: &mut S,
@@ -37,13 +36,15 @@ pub fn carry_out<S: BlockStore, Q: Summary<Reading = S::Reading> + Copy>(
     out: &mut [S::Reading],
     replies: &mut [Reply<S::Reading, Q>],
 ) -> Ran
-    ensures carried { Carried Q.Summary.means S.BlockStore nodes.old versions.old store.old readings.now calls.now out.old replies.old result nodes.new versions.new store.new out.new replies.new }
+    ensures carried { Carried Q.Summary.means S.BlockStore nodes.old versions.old store.old
+        readings.now calls.now out.old replies.old result
+        nodes.new versions.new store.new out.new replies.new }
 {
     running::begin_and_carry(nodes, versions, store, readings, calls, out, replies)
 }
 
 // Carries calls out on an archive that stands already, and answers how many.
-pub fn carry_on<S: BlockStore, Q: Summary<Reading = S::Reading> + Copy>(
+pub fn carry_on<S: BlockStore, Q: Summary<Reading = S::Reading>>(
     table: &mut NodeTable<'_, Q>,
     versions: &mut [Version],
     store: &mut S,
@@ -54,8 +55,10 @@ pub fn carry_on<S: BlockStore, Q: Summary<Reading = S::Reading> + Copy>(
 ) -> usize
     ensures done { result ≡ min (length calls.now) (length replies.old) }
     ensures rest { drop result replies.new ≡ drop result replies.old }
-    ensures chain { Chain Q.Summary.means S.BlockStore (bench_at (archive_of table.old versions.old store.old) out.old) (map (wanted readings.now) (take result calls.now)) (take result replies.new) (bench_at (archive_of table.new versions.new store.new) out.new) }
-    ensures law { CarriedOn Q.Summary.means S.BlockStore (bench_at (archive_of table.old versions.old store.old) out.old) (map (wanted readings.now) (take result calls.now)) (take result replies.new) (bench_at (archive_of table.new versions.new store.new) out.new) }
+    ensures carried { CarriedOn Q.Summary.means S.BlockStore
+        readings.now (take result calls.now) (take result replies.new)
+        (archive_of table.old versions.old store.old) out.old
+        (archive_of table.new versions.new store.new) out.new }
     ensures lender { table.new.nodes.ghost_name ≡ table.old.nodes.ghost_name }
 {
     running::carry_all(table, versions, store, readings, calls, out, replies)

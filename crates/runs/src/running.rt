@@ -1,9 +1,8 @@
 // A list of calls, carried out one after another on an archive.
 // `lender`: that the table stays the caller's slice speaks of two values, so that no invariant of its type can say it.
-ghost use Rattle.std.specs.Prelude.{◌≡◌, min, map, length, take, drop};
+ghost use Rattle.std.specs.Prelude.{◌≡◌, min, length, take, drop};
 ghost use Rattle.archive.specs.Calling.{archive_of};
-ghost use Rattle.runs.specs.Calls.{wanted, Chain, bench_at};
-ghost use Rattle.runs.specs.Runs.{Carried, CarriedOn};
+ghost use Rattle.runs.specs.Lists.{Carried, CarriedOn};
 
 use crate::call::Call;
 use crate::ran::Ran;
@@ -15,7 +14,7 @@ use store::BlockStore;
 use summary::Summary;
 
 // As many calls are carried out as there are places for replies; answers how many.
-pub(crate) fn carry_all<S: BlockStore, Q: Summary<Reading = S::Reading> + Copy>(
+pub(crate) fn carry_all<S: BlockStore, Q: Summary<Reading = S::Reading>>(
     table: &mut NodeTable<'_, Q>,
     versions: &mut [Version],
     store: &mut S,
@@ -26,8 +25,10 @@ pub(crate) fn carry_all<S: BlockStore, Q: Summary<Reading = S::Reading> + Copy>(
 ) -> usize
     ensures done { result ≡ min (length calls.now) (length replies.old) }
     ensures rest { drop result replies.new ≡ drop result replies.old }
-    ensures chain { Chain Q.Summary.means S.BlockStore (bench_at (archive_of table.old versions.old store.old) out.old) (map (wanted readings.now) (take result calls.now)) (take result replies.new) (bench_at (archive_of table.new versions.new store.new) out.new) }
-    ensures law { CarriedOn Q.Summary.means S.BlockStore (bench_at (archive_of table.old versions.old store.old) out.old) (map (wanted readings.now) (take result calls.now)) (take result replies.new) (bench_at (archive_of table.new versions.new store.new) out.new) }
+    ensures carried { CarriedOn Q.Summary.means S.BlockStore
+        readings.now (take result calls.now) (take result replies.new)
+        (archive_of table.old versions.old store.old) out.old
+        (archive_of table.new versions.new store.new) out.new }
     ensures lender { table.new.nodes.ghost_name ≡ table.old.nodes.ghost_name }
 {
     let count = calls.len().min(replies.len());
@@ -39,7 +40,7 @@ pub(crate) fn carry_all<S: BlockStore, Q: Summary<Reading = S::Reading> + Copy>(
 }
 
 // Begins an archive in the caller's tables, and carries the calls out on it.
-pub(crate) fn begin_and_carry<S: BlockStore, Q: Summary<Reading = S::Reading> + Copy>(
+pub(crate) fn begin_and_carry<S: BlockStore, Q: Summary<Reading = S::Reading>>(
     nodes: &mut [Node<Q>],
     versions: &mut [Version],
     store: &mut S,
@@ -48,7 +49,9 @@ pub(crate) fn begin_and_carry<S: BlockStore, Q: Summary<Reading = S::Reading> + 
     out: &mut [S::Reading],
     replies: &mut [Reply<S::Reading, Q>],
 ) -> Ran
-    ensures carried { Carried Q.Summary.means S.BlockStore nodes.old versions.old store.old readings.now calls.now out.old replies.old result nodes.new versions.new store.new out.new replies.new }
+    ensures carried { Carried Q.Summary.means S.BlockStore nodes.old versions.old store.old
+        readings.now calls.now out.old replies.old result
+        nodes.new versions.new store.new out.new replies.new }
 {
     let mut table = NodeTable::begin(nodes, versions);
     let done = carry_all(&mut table, versions, store, readings, calls, out, replies);

@@ -2,7 +2,7 @@
 // `lender`: that the table stays the caller's slice speaks of two values, so that no invariant of its type can say it.
 ghost use Rattle.std.specs.Prelude.{◌≡◌};
 ghost use Rattle.archive.specs.Calling.{archive_of};
-ghost use Rattle.runs.specs.Calls.{row_named, wanted, SpanInto, Did, bench_at};
+ghost use Rattle.runs.specs.Lists.{row_named, SpanInto, CarriedOne};
 
 use crate::call::Call;
 use crate::reply::Reply;
@@ -21,7 +21,7 @@ pub(crate) fn row_named<R>(readings: &[R], from: usize, len: usize) -> &[R]
 }
 
 // A span into the output from a place on; past its end there is no output.
-pub(crate) fn span_into<S: BlockStore, Q: Summary<Reading = S::Reading> + Copy>(
+pub(crate) fn span_into<S: BlockStore, Q: Summary<Reading = S::Reading>>(
     table: &NodeTable<'_, Q>,
     versions: &[Version],
     store: &S,
@@ -31,14 +31,16 @@ pub(crate) fn span_into<S: BlockStore, Q: Summary<Reading = S::Reading> + Copy>(
     out: &mut [S::Reading],
     to: usize,
 ) -> Result<u32, ReadFault>
-    ensures { SpanInto Q.Summary.means S.BlockStore (archive_of table.now versions.now store.now) version a b to out.old result out.new }
+    ensures { SpanInto Q.Summary.means S.BlockStore (archive_of table.now versions.now store.now)
+        version a b to out.old result out.new }
 {
     let at = to.min(out.len());
     table.span(versions, store, version, a, b, &mut out[at..])
 }
 
 // A match and no table of functions: a call comes as data, and each kind of call has its own arguments and its own promise.
-pub(crate) fn carry_one<S: BlockStore, Q: Summary<Reading = S::Reading> + Copy>(
+#[tactic(auto, using(crate::proofs::Ones::ones))]
+pub(crate) fn carry_one<S: BlockStore, Q: Summary<Reading = S::Reading>>(
     table: &mut NodeTable<'_, Q>,
     versions: &mut [Version],
     store: &mut S,
@@ -46,7 +48,9 @@ pub(crate) fn carry_one<S: BlockStore, Q: Summary<Reading = S::Reading> + Copy>(
     call: Call,
     out: &mut [S::Reading],
 ) -> Reply<S::Reading, Q>
-    ensures did { Did Q.Summary.means S.BlockStore (bench_at (archive_of table.old versions.old store.old) out.old) (wanted readings.now call) result (bench_at (archive_of table.new versions.new store.new) out.new) }
+    ensures carried { CarriedOne Q.Summary.means S.BlockStore readings.now call result
+        (archive_of table.old versions.old store.old) out.old
+        (archive_of table.new versions.new store.new) out.new }
     ensures lender { table.new.nodes.ghost_name ≡ table.old.nodes.ghost_name }
 {
     match call {

@@ -6,7 +6,7 @@ pub returns : goal.returns
 returns g c =
     let back = c.nodes-1.given.1.1 (sym (c.carry_all-done.ensures.lender ∙ c.begin-table.ensures.lender)) in
     record {
-      carried = carried g.Q.Summary.means g.S.BlockStore c.args.nodes.now _ _ c.args.versions.now _ c.carry_all-done.new.versions (record { used = c.begin-table.result.used; count = c.begin-table.result.count })
+      carried = carried g.Q.Summary.means g.met.Q.Summary.lawful g.S.BlockStore c.args.nodes.now _ _ c.args.versions.now _ c.carry_all-done.new.versions (record { used = c.begin-table.result.used; count = c.begin-table.result.count })
           c.args.store.now c.carry_all-done.new.store c.args.readings.now c.args.calls.now c.args.out.now c.carry_all-done.new.out c.args.replies.now c.carry_all-done.new.replies
-          c.carry_all-done.result _ _ _ _ _ back c.used.ensures c.count.ensures c.begin-table.ensures.begun c.carry_all-done.ensures.done c.carry_all-done.ensures.rest c.carry_all-done.ensures.chain;
+          c.carry_all-done.result _ _ _ _ _ (back ∙ c.drop-table.ensures) c.used.ensures c.count.ensures c.begin-table.ensures.begun c.carry_all-done.ensures.done c.carry_all-done.ensures.rest c.carry_all-done.ensures.carried;
     }

@@ -1,25 +1,23 @@
-use Rattle.std.proofs.Common.{◌∙◌, arith, length-take}
-use Rattle.runs.specs.Calls.{wanted}
-use Rattle.runs.proofs.Lawful.{runs_lawful}
-use Rattle.runs.proofs.Replies.{chain_next, chain_all}
+use Rattle.std.proofs.Common.{refl, ◌∙◌, arith, length-take}
+use Rattle.runs.proofs.Lists.{none_carried, next_carried, all_carried}
 use Rattle.runs.proofs.running.carry_all.Goals as goal
+
+pub loop-i-init : goal.loop-i-init
+loop-i-init g c = record { carried = none_carried g.Q.Summary.means g.S.BlockStore _ _ _; lender = refl }
 
 pub loop-i-preserved : goal.loop-i-preserved
 loop-i-preserved g c =
     let n = c.min-count.ensures in
     let l = length-take c.min-count.result c.args.replies.now in
     record {
-      chain = chain_next g.Q.Summary.means g.S.BlockStore (wanted c.args.readings.now) c.args.calls.now _ _ _ c.loop-i.reply-items c.loop-i.i _ c.carry_one.result
-          c.loop-i.invariant.chain c.carry_one.ensures.did (omega arith) (omega arith);
+      carried = next_carried g.Q.Summary.means g.S.BlockStore c.args.readings.now c.args.calls.now c.loop-i.reply-items _ _ _ _ _ _ c.loop-i.i _ c.carry_one.result
+          c.loop-i.invariant.carried c.carry_one.ensures.carried (omega arith) (omega arith);
       lender = c.carry_one.ensures.lender ∙ c.loop-i.invariant.lender;
     }
 
-pub returns-clause-chain : goal.returns-clause-chain
-returns-clause-chain g c =
+pub returns-clause-carried : goal.returns-clause-carried
+returns-clause-carried g c =
     let n = c.min-count.ensures in
     let l = length-take c.min-count.result c.args.replies.now in
     let bound = c.loop-i.auto.i-end in
-    chain_all g.Q.Summary.means g.S.BlockStore (wanted c.args.readings.now) c.args.calls.now _ _ c.loop-i.reply-items _ c.loop-i.i c.min-count.result c.loop-i.invariant.chain (omega arith) (omega arith)
-
-pub returns-clause-law : goal.returns-clause-law
-returns-clause-law g c = λ h st. runs_lawful g.Q.Summary.means g.S.BlockStore h _ _ _ _ st (returns-clause-chain g c)
+    all_carried g.Q.Summary.means g.S.BlockStore c.args.readings.now c.args.calls.now c.loop-i.reply-items _ _ _ _ _ c.loop-i.i c.min-count.result c.loop-i.invariant.carried (omega arith) (omega arith)
