@@ -27,7 +27,8 @@ fn inserts(
     len: u32,
     places: &[u32],
 ) -> Result<Vec<Call>, AllocError>
-    ensures { IfOk result (λ calls. calls.items ≡ map (λ place. call.Insert base place level 0 len) places.now) }
+    ensures { IfOk result
+        (λ calls. calls.items ≡ map (λ place. call.Insert base place level 0 len) places.now) }
 {
     places
         .iter()
@@ -42,7 +43,8 @@ fn inserts(
 }
 
 fn readings(heap: Global, version: u32, positions: &[u32]) -> Result<Vec<Call>, AllocError>
-    ensures { IfOk result (λ calls. calls.items ≡ map (λ position. call.Reading version position) positions.now) }
+    ensures { IfOk result
+        (λ calls. calls.items ≡ map (λ position. call.Reading version position) positions.now) }
 {
     positions
         .iter()
@@ -54,7 +56,8 @@ fn readings(heap: Global, version: u32, positions: &[u32]) -> Result<Vec<Call>, 
 }
 
 fn spans(heap: Global, version: u32, len: u32, starts: &[u32]) -> Result<Vec<Call>, AllocError>
-    ensures { IfOk result (λ calls. calls.items ≡ map (λ a. call.Span version a ((a + len) % 2 ^ 32) 0) starts.now) }
+    ensures { IfOk result
+        (λ calls. calls.items ≡ map (λ a. call.Span version a ((a + len) % 2 ^ 32) 0) starts.now) }
 {
     starts
         .iter()
@@ -68,7 +71,8 @@ fn spans(heap: Global, version: u32, len: u32, starts: &[u32]) -> Result<Vec<Cal
 }
 
 fn summaries(heap: Global, version: u32, len: u32, starts: &[u32]) -> Result<Vec<Call>, AllocError>
-    ensures { IfOk result (λ calls. calls.items ≡ map (λ a. call.Summary version a ((a + len) % 2 ^ 32)) starts.now) }
+    ensures { IfOk result
+        (λ calls. calls.items ≡ map (λ a. call.Summary version a ((a + len) % 2 ^ 32)) starts.now) }
 {
     starts
         .iter()
@@ -94,7 +98,8 @@ pub(crate) fn append(
     times: &[u32],
     rounds: u32,
 ) -> Result<u64, AllocError>
-    ensures { IfOk result (λ told. Timed journal.now (map (λ n. call.Append base 0 len) times.now) rounds told) }
+    ensures { IfOk result
+        (λ told. Timed journal.now (map (λ n. call.Append base 0 len) times.now) rounds told) }
 {
     let calls = appends(heap, base, len, times)?;
     timed(heap, journal, calls.as_slice(), rounds)
@@ -109,7 +114,8 @@ pub(crate) fn insert(
     places: &[u32],
     rounds: u32,
 ) -> Result<u64, AllocError>
-    ensures { IfOk result (λ told. Timed journal.now (map (λ place. call.Insert base place level 0 len) places.now) rounds told) }
+    ensures { IfOk result
+        (λ told. Timed journal.now (map (λ place. call.Insert base place level 0 len) places.now) rounds told) }
 {
     let calls = inserts(heap, base, level, len, places)?;
     timed(heap, journal, calls.as_slice(), rounds)
@@ -122,7 +128,8 @@ pub(crate) fn reading(
     positions: &[u32],
     rounds: u32,
 ) -> Result<u64, AllocError>
-    ensures { IfOk result (λ told. Timed journal.now (map (λ position. call.Reading version position) positions.now) rounds told) }
+    ensures { IfOk result
+        (λ told. Timed journal.now (map (λ position. call.Reading version position) positions.now) rounds told) }
 {
     let calls = readings(heap, version, positions)?;
     timed(heap, journal, calls.as_slice(), rounds)
@@ -136,7 +143,8 @@ pub(crate) fn span(
     starts: &[u32],
     rounds: u32,
 ) -> Result<u64, AllocError>
-    ensures { IfOk result (λ told. Timed journal.now (map (λ a. call.Span version a ((a + len) % 2 ^ 32) 0) starts.now) rounds told) }
+    ensures { IfOk result
+        (λ told. Timed journal.now (map (λ a. call.Span version a ((a + len) % 2 ^ 32) 0) starts.now) rounds told) }
 {
     let calls = spans(heap, version, len, starts)?;
     timed(heap, journal, calls.as_slice(), rounds)
@@ -150,7 +158,8 @@ pub(crate) fn summary(
     starts: &[u32],
     rounds: u32,
 ) -> Result<u64, AllocError>
-    ensures { IfOk result (λ told. Timed journal.now (map (λ a. call.Summary version a ((a + len) % 2 ^ 32)) starts.now) rounds told) }
+    ensures { IfOk result
+        (λ told. Timed journal.now (map (λ a. call.Summary version a ((a + len) % 2 ^ 32)) starts.now) rounds told) }
 {
     let calls = summaries(heap, version, len, starts)?;
     timed(heap, journal, calls.as_slice(), rounds)

@@ -36,7 +36,8 @@ pub extern "C" fn bench_calls_append(
     times: &[u32],
     rounds: u32,
 ) -> Told
-    ensures { IsTrue result.done → Timed journal.now (map (λ n. call.Append base 0 len) times.now) rounds result.number }
+    ensures { IsTrue result.done → Timed journal.now (map (λ n. call.Append base 0 len) times.now)
+        rounds result.number }
 {
     Told::of(asking::append(heap, journal, base, len, times, rounds))
 }
@@ -52,7 +53,8 @@ pub extern "C" fn bench_calls_insert(
     places: &[u32],
     rounds: u32,
 ) -> Told
-    ensures { IsTrue result.done → Timed journal.now (map (λ place. call.Insert base place level 0 len) places.now) rounds result.number }
+    ensures { IsTrue result.done → Timed journal.now
+        (map (λ place. call.Insert base place level 0 len) places.now) rounds result.number }
 {
     Told::of(asking::insert(heap, journal, base, level, len, places, rounds))
 }
@@ -66,7 +68,8 @@ pub extern "C" fn bench_calls_reading(
     positions: &[u32],
     rounds: u32,
 ) -> Told
-    ensures { IsTrue result.done → Timed journal.now (map (λ position. call.Reading version position) positions.now) rounds result.number }
+    ensures { IsTrue result.done → Timed journal.now
+        (map (λ position. call.Reading version position) positions.now) rounds result.number }
 {
     Told::of(asking::reading(heap, journal, version, positions, rounds))
 }
@@ -81,7 +84,9 @@ pub extern "C" fn bench_calls_span(
     starts: &[u32],
     rounds: u32,
 ) -> Told
-    ensures { IsTrue result.done → Timed journal.now (map (λ a. call.Span version a ((a + len) % 2 ^ 32) 0) starts.now) rounds result.number }
+    ensures { IsTrue result.done → Timed journal.now
+        (map (λ a. call.Span version a ((a + len) % 2 ^ 32) 0) starts.now) rounds
+        result.number }
 {
     Told::of(asking::span(heap, journal, version, len, starts, rounds))
 }
@@ -96,7 +101,9 @@ pub extern "C" fn bench_calls_summary(
     starts: &[u32],
     rounds: u32,
 ) -> Told
-    ensures { IsTrue result.done → Timed journal.now (map (λ a. call.Summary version a ((a + len) % 2 ^ 32)) starts.now) rounds result.number }
+    ensures { IsTrue result.done → Timed journal.now
+        (map (λ a. call.Summary version a ((a + len) % 2 ^ 32)) starts.now) rounds
+        result.number }
 {
     Told::of(asking::summary(heap, journal, version, len, starts, rounds))
 }

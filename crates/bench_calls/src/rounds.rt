@@ -1,8 +1,7 @@
 // Rounds of the same calls on an archive.
 // `lender`: that the table stays the caller's slice speaks of two values, so that no invariant of its type can say it.
-ghost use Rattle.std.specs.Prelude.{◌≡◌, map, length};
+ghost use Rattle.std.specs.Prelude.{◌≡◌, length};
 ghost use Rattle.archive.specs.Calling.{archive_of};
-ghost use Rattle.runs.specs.Calls.{wanted, bench_at};
 ghost use Rattle.bench_calls.specs.Timed.{Rounds};
 
 use crate::digests::replies_mixed;
@@ -24,7 +23,9 @@ pub(crate) fn carry_rounds<S: BlockStore<Reading = Count>>(
     replies: &mut [Reply<Count, Peak<Count>>],
 ) -> u64
     requires { length replies.old ≡ length calls.now }
-    ensures told { Rounds S.BlockStore (bench_at (archive_of table.old versions.old store.old) out.old) (map (wanted readings.now) calls.now) rounds result (bench_at (archive_of table.new versions.new store.new) out.new) }
+    ensures told { Rounds S.BlockStore readings.now calls.now
+        (archive_of table.old versions.old store.old) out.old rounds result
+        (archive_of table.new versions.new store.new) out.new }
     ensures lender { table.new.nodes.ghost_name ≡ table.old.nodes.ghost_name }
 {
     let mut sum = 0;

@@ -26,7 +26,8 @@ fn timed_over<S: BlockStore<Reading = Count> + Drop>(
     replies: &mut [Reply<Count, Peak<Count>>],
 ) -> u64
     requires { length replies.old ≡ length calls.now }
-    ensures { TimedOver S.BlockStore nodes.old versions.old store area.old out.old journal.now calls.now rounds result }
+    ensures { TimedOver S.BlockStore nodes.old versions.old store area.old out.old journal.now
+        calls.now rounds result }
 {
     let Loaded { mut table, answer } = load(journal, nodes, versions, &mut store, area);
     let sum = carry_rounds(

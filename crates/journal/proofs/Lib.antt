@@ -3,12 +3,15 @@ pub mod TripHistory
 pub mod Codes
 pub mod TripLists
 pub mod TripDue
+pub mod DueSame
 pub mod TripFits
 pub mod TripBack
 pub mod ReadRows
 pub mod LoadRecords
 pub mod LoadTaking
 pub mod LoadAll
+pub mod LoadSame
+pub mod EditSame
 pub mod LoadBegun
 pub mod Writes
 pub mod Written

@@ -8,7 +8,7 @@ use Rattle.summary.specs.Summing.{Summing}
 use Rattle.history.specs.Edits.{Edit}
 use Rattle.archive.specs.declared.fault.EditFault.{EditFault}
 use Rattle.archive.specs.declared.table.Accepted.{Accepted}
-use Rattle.archive.specs.Calling.{Archive, Answered, Standing, EditKept, EditAccepted, RowRefused, asked_refusal, edit_asked}
+use Rattle.archive.specs.Calling.{Archive, Answered, Standing, EditKept, EditAccepted, RowRefused, asked_refusal, number_in, edit_asked}
 use Rattle.runs.specs.Runs.{History}
 use Rattle.journal.specs.declared.fault.JournalFault.TheVariants as fault
 use Rattle.journal.specs.declared.fault.LoadFault.{LoadFault}
@@ -48,19 +48,19 @@ module _ {R Q S : Type 0} (means : Summing R Q) (keeps : Keeping S R) where
   never : {P : Type 0} (x : Accepted) (f : EditFault) → ◌≡◌ {A = Result Accepted EditFault} (Ok x) (Err f) → P
   never x f q = let z : ◌≡◌ {A = ℕ} 0 1 = cc in absurd (omega arith)
 
-  took_told : (es : List (Edit R)) (s : Archive Q S) (e : Entry R) (t : Archive Q S) (x : Accepted) → EditKept means keeps s (asked_of e) (Ok x) t → (o : Option EditFault)
+  took_told : (es : List (Edit R)) (s : Archive Q S) (e : Entry R) (t : Archive Q S) (x : Accepted) → EditKept means keeps s (asked_of e) (Ok x) t → (o : Option EditFault) → asked_refusal s.tables es (asked_of e) ≡ o
       → Answered o (Ok x) (λ y. EditAccepted means keeps es s (asked_of e) y t) (RowRefused means keeps s.store (asked_of e)) → TookOn (Some es) s e t
-  took_told es s e t x kept (Some f) told = never x f told
-  took_told es s e t x kept None told =
+  took_told es s e t x kept (Some f) is told = never x f told
+  took_told es s e t x kept None is told =
       record {
-        history = Some (edit_asked es (asked_of e) told.number ∷ es);
-        took = record { before = es; was = refl; answer = x; accepted = told; kept = kept; after = refl };
+        history = Some (edit_asked es (asked_of e) (number_in means keeps s t) ∷ es);
+        took = record { before = es; was = refl; no_refusal = is; answer = x; accepted = told; kept = kept; after = refl };
         stands = told.stands;
       }
 
   took_one : (h : History R) (s : Archive Q S) (e : Entry R) (t : Archive Q S) → Standing means keeps h s → Sent means keeps s e t → TookOn h s e t
   took_one None s e t st sent = never sent.answer _ (sent.law None st)
-  took_one (Some es) s e t st sent = took_told es s e t sent.answer sent.kept (asked_refusal s.tables es (asked_of e)) (sent.law (Some es) st)
+  took_one (Some es) s e t st sent = took_told es s e t sent.answer sent.kept (asked_refusal s.tables es (asked_of e)) refl (sent.law (Some es) st)
 
   record TookAllOn (h : History R) (s : Archive Q S) (es : List (Entry R)) (t : Archive Q S) : Type 0 where
     history : History R

@@ -144,8 +144,8 @@ module _ {R Q S : Type 0} (means : Summing R Q) (keeps : Keeping S R) (k : Codin
           → EntryStopped means keeps k s area bytes at (record { fault = fault.Edit x; place = at }) t after
       unfolding e
       entry_refused x kept law =
-          refused e (drop end bytes) x fits_is room_is bytes_there (subst (λ u. EditLaw means keeps s (asked_of e) (Err x) u) kept (subst (λ l. EditLaw means keeps s (asked_of (entry_with o.step l)) (Err x) t) row_given law))
-          refl kept put_is
+          refused e (drop end bytes) x fits_is room_is bytes_there (subst (λ u. EditLaw means keeps s (asked_of e) (Err x) u) kept.0 (subst (λ l. EditLaw means keeps s (asked_of (entry_with o.step l)) (Err x) t) row_given law))
+          refl kept.0 put_is
 
       -- whatever the archive answers
       pub entry_sent : (r : Result Accepted EditFault) → EditKept means keeps s (asked_of (entry_with o.step given)) r t → EditLaw means keeps s (asked_of (entry_with o.step given)) r t

@@ -4,7 +4,7 @@ use Rattle.std.proofs.Common.{◌≡◌, ℕ, Bool, true, false, cond, ◌||◌,
 use Rattle.std.proofs.lemmas.List.{append-nil, append_assoc}
 use Rattle.summary.specs.Summing.{Summing}
 use Rattle.history.specs.Edits.{Edit}
-use Rattle.archive.specs.Calling.{Archive, Standing, edit_asked}
+use Rattle.archive.specs.Calling.{Archive, Standing, number_in, edit_asked}
 use Rattle.archive.proofs.Later.{same_some}
 use Rattle.runs.specs.Runs.{History}
 use Rattle.journal.specs.Format.{Coding, Entry, insert, change, removal, asked_of, entry_of, entries_of, head_bytes, entries_bytes, journal_bytes}
@@ -29,14 +29,14 @@ module _ {R Q S : Type 0} (means : Summing R Q) (keeps : Keeping S R) where
   taken_on (x ∷ xs) es s k t took =
       let step = took.2 in
       let before = step.before in
-      let new = edit_asked before (asked_of x) step.accepted.number in
+      let new = edit_asked before (asked_of x) (number_in means keeps s took.1) in
       let on : TookAll means keeps (Some (new ∷ before)) took.1 xs k t = subst (λ h. TookAll means keeps h took.1 xs k t) step.after took.3 in
       let r = taken_on xs (new ∷ before) took.1 k t on in
       let was : before ≡ es = sym (same_some es before step.was) in (
         r.0,
         r.1,
         r.2 ∙ (append_assoc (entries_of before) (entry_of new ∷ []) xs
-            ∙ (ap (λ y. entries_of before ++ (y ∷ xs)) (entry_asked before x step.accepted.number) ∙ ap (λ l. entries_of l ++ (x ∷ xs)) was)),
+            ∙ (ap (λ y. entries_of before ++ (y ∷ xs)) (entry_asked before x (number_in means keeps s took.1)) ∙ ap (λ l. entries_of l ++ (x ∷ xs)) was)),
       )
 
   -- an archive without versions takes none

@@ -1,6 +1,8 @@
 -- Where bytes stop being a journal, and why. Assumes nothing.
 use Rattle.std.specs.Prelude.{◌≡◌, ℕ, ◌+◌, ◌^◌, ◌<◌, ◌≤◌, cond, List, [], ◌∷◌, ◌++◌, length, Some, None, Option, ◌==◌, ◌≢◌}
+use Rattle.archive.specs.Records.{kind_number}
 use Rattle.archive.specs.Refusals.{edit_number, inner_cause}
+use Rattle.archive.specs.declared.version.Kind.TheVariants.{Insert, Change, Removal}
 use Rattle.journal.specs.declared.fault.JournalFault.{JournalFault}
 use Rattle.journal.specs.declared.fault.JournalFault.TheVariants as fault
 use Rattle.journal.specs.Format.{Coding, insert_record, change_record, reading_kind, row_bytes}
@@ -36,7 +38,7 @@ store_cause (fault.Edit f) = inner_cause f
 
 -- how long the body of an edit's record is; other kinds are no edits
 abbrev pub body_length : ℕ → Option ℕ
-body_length b = cond (b == 2) (Some 7) (cond (b == 3) (Some 6) (cond (b == 4) (Some 4) None))
+body_length b = cond (b == kind_number Insert) (Some 7) (cond (b == kind_number Change) (Some 6) (cond (b == kind_number Removal) (Some 4) None))
 
 -- bytes that begin with the record of an edit that has a row of n readings; `size` is how long the record is, `more` what follows it
 pub data Opens (bytes : List ℕ) (n size : ℕ) (more : List ℕ) : Type 0 where

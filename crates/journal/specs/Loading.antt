@@ -1,6 +1,6 @@
 -- What loading a journal answers and leaves. Assumes nothing.
 use Rattle.store.specs.Keeping.{Keeping}
-use Rattle.std.specs.Prelude.{◌≡◌, ℕ, ◌+◌, ◌<◌, ◌≤◌, List, [], ◌∷◌, ◌++◌, map, length, take, drop, Some, Ok, Err, Result, ◌≢◌}
+use Rattle.std.specs.Prelude.{◌≡◌, ℕ, ◌+◌, ◌<◌, ◌≤◌, List, [], ◌∷◌, ◌++◌, map, length, take, drop, Some, None, Ok, Err, Result, ◌≢◌}
 use Rattle.std.specs.List.{AllByRecursion}
 use Rattle.summary.specs.Summing.{Summing}
 use Rattle.history.specs.Edits.{Edit}
@@ -10,7 +10,7 @@ use Rattle.archive.specs.declared.begin.Begun.{Begun}
 use Rattle.archive.specs.declared.fault.EditFault.{EditFault}
 use Rattle.archive.specs.declared.table.Accepted.{Accepted}
 use Rattle.archive.specs.Beginning.{Begin}
-use Rattle.archive.specs.Calling.{Archive, Standing, EditKept, EditAccepted, EditTold, edit_asked}
+use Rattle.archive.specs.Calling.{Archive, Standing, EditKept, EditAccepted, EditTold, asked_refusal, number_in, edit_asked}
 use Rattle.runs.specs.Runs.{History, begun_history}
 use Rattle.journal.specs.declared.fault.JournalFault.{JournalFault}
 use Rattle.journal.specs.declared.fault.JournalFault.TheVariants as fault
@@ -24,14 +24,15 @@ rows_over area [] = area
 rows_over area (row ∷ rows) = rows_over (row ++ drop (length row) area) rows
 
 module _ {R Q S : Type 0} (means : Summing R Q) (keeps : Keeping S R) where
-  -- an entry that the archive accepted
+  -- an entry that the archive accepted, where the replay has no refusal
   pub record Took (h : History R) (s : Archive Q S) (e : Entry R) (k : History R) (t : Archive Q S) : Type 0 where
     pub before : List (Edit R)
     pub was : h ≡ Some before
+    pub no_refusal : asked_refusal s.tables before (asked_of e) ≡ None
     pub answer : Accepted
     pub accepted : EditAccepted means keeps before s (asked_of e) answer t
     pub kept : EditKept means keeps s (asked_of e) (Ok answer) t
-    pub after : k ≡ Some (edit_asked before (asked_of e) accepted.number ∷ before)
+    pub after : k ≡ Some (edit_asked before (asked_of e) (number_in means keeps s t) ∷ before)
 
   -- entries that the archive accepted, one after another
   abbrev pub TookAll : History R → Archive Q S → List (Entry R) → History R → Archive Q S → Type 0

@@ -14,7 +14,7 @@ use Rattle.journal.specs.declared.fault.LoadFault.{LoadFault}
 use Rattle.journal.specs.Format.{Coding, entries_of, head_bytes, journal_bytes}
 use Rattle.journal.specs.Loading.{LoadedFrom}
 
--- the journal of an archive: the head, and every version above 0 in order
+-- the journal of an archive: its head, and then what made version 1, version 2 and so on
 abbrev pub journal_of : {R : Type 0} → Coding R → History R → List ℕ
 journal_of k None = head_bytes k
 journal_of k (Some es) = journal_bytes k (entries_of es)

@@ -11,19 +11,19 @@ pub enum JournalFault {
     Area,
     // The journal ends inside a record, or where a reading is due.
     Ends,
-    // The kind byte is not allowed there.
+    // A record of this kind may not stand there.
     Kind,
-    // The first three bytes are not the head of a journal of this kind of reading.
+    // There are three bytes or more, and those in front are no head for this kind of reading.
     Head,
     // The record's row has no reading, or more than 1,024.
     RowLength,
-    // The bytes are no reading of the kind.
+    // No reading of this kind encodes to the bytes.
     Reading,
     // The archive refuses the edit.
     Edit(EditFault),
 }
 
-// A fault, and the byte place of the record that caused it.
+// A fault, and where the record at fault begins, counted in bytes.
 #[derive(Clone, Copy, PartialEq, Eq, Debug)]
 pub struct LoadFault {
     pub fault: JournalFault,

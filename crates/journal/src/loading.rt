@@ -19,18 +19,20 @@ mod taking;
 
 pub use loaded::Loaded;
 
-// Begins an archive in the caller's tables, and takes in the edits of a journal, one after another, up to its end or to the first fault, with the byte
-// place of the record that caused it. The readings of each edit go to the start of the row area as they pass. Where loading stops, the edits before
-// stay.
+// Begins an archive in the caller's tables, and takes in the edits of a journal, one after another, up to its end or to the first fault, which is told
+// with the place where the record at fault begins. Readings go to the front of the row area as soon as they are read. What was taken in before a fault
+// stays.
 // Thin over a function with the same promise: that has a proof written by hand, and a fault here is then refused for the fact that fails.
-pub fn load<'a, S: BlockStore, Q: Summary<Reading = S::Reading> + Copy>(
+pub fn load<'a, S: BlockStore, Q: Summary<Reading = S::Reading>>(
     bytes: &[u8],
     nodes: &'a mut [Node<Q>],
     versions: &mut [Version],
     store: &mut S,
     area: &mut [S::Reading],
 ) -> Loaded<'a, Q>
-    ensures loaded { LoadedFrom Q.Summary.means S.BlockStore (coding S.Reading.Reading.own) nodes.old versions.old store.old area.old bytes.now result.answer (archive_of result.table versions.new store.new) area.new }
+    ensures loaded { LoadedFrom Q.Summary.means S.BlockStore (coding S.Reading.Reading.own) nodes.old
+        versions.old store.old area.old bytes.now result.answer
+        (archive_of result.table versions.new store.new) area.new }
     ensures lender { result.table.nodes.ghost_name ≡ nodes.entry.ghost_name }
 {
     beginning::begin_and_take_in(bytes, nodes, versions, store, area)

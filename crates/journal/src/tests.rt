@@ -93,7 +93,7 @@ pub(crate) fn free_record() -> Version {
 }
 
 // The versions, or 0; the fault's number, the refusal inside it, the cause inside that; the byte place. Numbers, since the three functions are tested too.
-fn told<S: BlockStore, Q: Summary<Reading = S::Reading> + Copy>(
+fn told<S: BlockStore, Q: Summary<Reading = S::Reading>>(
     bytes: &[u8],
     nodes: &mut [Node<Q>],
     versions: &mut [Version],
@@ -464,6 +464,7 @@ fn stopped_loads(rt: HostRuntime) {
         }
         let used = loaded.table.used() as usize;
         let count = loaded.table.count() as usize;
+        drop(loaded);
         for node in nodes.iter().skip(used) {
             assert_eq!(rt; *node, free_node());
         }

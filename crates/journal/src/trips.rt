@@ -7,21 +7,18 @@ use summary::Summary;
 
 // For every store and lawful summary: a journal that loads whole is the journal of the archive that it gives, so that, written, it comes back byte
 // for byte.
-pub fn comes_back<S: BlockStore, Q: Summary<Reading = S::Reading>>() -> u8
+pub fn comes_back<S: BlockStore, Q: Summary<Reading = S::Reading>>()
     ensures { ComesBack Q.Summary.means S.BlockStore (coding S.Reading.Reading.own) }
-{
-    0
-}
+{}
 
 // For every two stores and lawful summaries of one kind of reading: the journal of any archive in the one, loaded into an archive in the other
-// that has just begun, gives the same versions, where no edit is refused and the row area is long enough.
+// that has just begun, gives versions with the same rows and levels; that is, unless an edit is refused or the row area is too short.
 pub fn loads_back<
     T: BlockStore,
     P: Summary<Reading = T::Reading>,
     S: BlockStore<Reading = T::Reading>,
     Q: Summary<Reading = T::Reading>,
->() -> u8
-    ensures { LoadsBack (coding T.Reading.Reading.own) P.Summary.means T.BlockStore Q.Summary.means S.BlockStore }
-{
-    0
-}
+>()
+    ensures { LoadsBack (coding T.Reading.Reading.own) P.Summary.means T.BlockStore Q.Summary.means
+        S.BlockStore }
+{}

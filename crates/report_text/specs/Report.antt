@@ -91,8 +91,8 @@ module _ {S : Type 0} (keeps : Keeping S Count) where
     pub loaded : LoadedFrom peaks keeps counts_coding nodes versions store area bytes answer archive area_after
     pub shown : (h : History Count) → Standing peaks keeps h archive → text ≡ table_text h ++ fault_text answer
 
--- The text of the first bytes, at most so many, with 1,024 nodes, 256 versions, a row area of 1,024 readings and a row store with no block over an area
--- of 4,096.
+-- The text of the first bytes, at most so many. They load into tables of these sizes: nodes 1,024, versions 256, row area 1,024, row store 4,096 (it has no
+-- block before).
 pub record ReportedFirst (most : ℕ) (bytes text : List ℕ) : Type 0 where
   pub nodes : List (Node (Peak Count))
   pub nodes_there : length nodes ≡ 1024
@@ -109,3 +109,7 @@ pub record ReportedFirst (most : ℕ) (bytes text : List ℕ) : Type 0 where
 -- the first 32,768 bytes are read
 abbrev pub Reported : List ℕ → List ℕ → Type 0
 Reported bytes text = ReportedFirst 32768 bytes text
+
+-- one input has one report: two texts that keep the contract for it are equal
+abbrev pub OneText : Type 0
+OneText = (bytes text other : List ℕ) → Reported bytes text → Reported bytes other → text ≡ other

@@ -7,8 +7,13 @@ ghost use Rattle.report_text.specs.Report.{Reported};
 use std::alloc::{AllocError, Global};
 
 mod fault_line;
+mod laws;
 mod lines;
+mod stream;
 mod tables;
+
+pub use laws::one_text;
+pub use stream::report_stream;
 
 // The text of the first 32,768 bytes.
 pub fn report(heap: Global, bytes: &[u8]) -> Result<String, AllocError>

@@ -12,14 +12,16 @@ use nodes::Node;
 use store::BlockStore;
 use summary::Summary;
 
-pub(crate) fn begin_and_take_in<'a, S: BlockStore, Q: Summary<Reading = S::Reading> + Copy>(
+pub(crate) fn begin_and_take_in<'a, S: BlockStore, Q: Summary<Reading = S::Reading>>(
     bytes: &[u8],
     nodes: &'a mut [Node<Q>],
     versions: &mut [Version],
     store: &mut S,
     area: &mut [S::Reading],
 ) -> Loaded<'a, Q>
-    ensures loaded { LoadedFrom Q.Summary.means S.BlockStore (coding S.Reading.Reading.own) nodes.old versions.old store.old area.old bytes.now result.answer (archive_of result.table versions.new store.new) area.new }
+    ensures loaded { LoadedFrom Q.Summary.means S.BlockStore (coding S.Reading.Reading.own) nodes.old
+        versions.old store.old area.old bytes.now result.answer
+        (archive_of result.table versions.new store.new) area.new }
     ensures lender { result.table.nodes.ghost_name ≡ nodes.entry.ghost_name }
 {
     let mut table = NodeTable::begin(nodes, versions);

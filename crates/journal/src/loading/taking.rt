@@ -29,7 +29,7 @@ fn ended(answer: Result<Accepted, EditFault>, at: usize, end: usize) -> Result<u
 }
 
 // Takes in the edit whose record stands at a place, and answers where it ends. Its readings go to the row area.
-fn take_in<S: BlockStore, Q: Summary<Reading = S::Reading> + Copy>(
+fn take_in<S: BlockStore, Q: Summary<Reading = S::Reading>>(
     table: &mut NodeTable<'_, Q>,
     versions: &mut [Version],
     store: &mut S,
@@ -38,7 +38,9 @@ fn take_in<S: BlockStore, Q: Summary<Reading = S::Reading> + Copy>(
     area: &mut [S::Reading],
 ) -> Result<usize, LoadFault>
     requires { at < length bytes.now }
-    ensures taken { OneTaken Q.Summary.means S.BlockStore (coding S.Reading.Reading.own) (archive_of table.old versions.old store.old) area.old bytes.now at result (archive_of table.new versions.new store.new) area.new }
+    ensures taken { OneTaken Q.Summary.means S.BlockStore (coding S.Reading.Reading.own)
+        (archive_of table.old versions.old store.old) area.old bytes.now at result
+        (archive_of table.new versions.new store.new) area.new }
     ensures lender { table.new.nodes.ghost_name ≡ table.old.nodes.ghost_name }
 {
     let Opening { step, count, next } = opening_at(bytes, at, area.len()).map_err(
@@ -50,14 +52,16 @@ fn take_in<S: BlockStore, Q: Summary<Reading = S::Reading> + Copy>(
 }
 
 // Takes in the edits of a journal, one after another, up to its end or to the first fault; answers how many versions there are then.
-pub(crate) fn take_in_all<S: BlockStore, Q: Summary<Reading = S::Reading> + Copy>(
+pub(crate) fn take_in_all<S: BlockStore, Q: Summary<Reading = S::Reading>>(
     table: &mut NodeTable<'_, Q>,
     versions: &mut [Version],
     store: &mut S,
     bytes: &[u8],
     area: &mut [S::Reading],
 ) -> Result<u32, LoadFault>
-    ensures law { LoadLaw Q.Summary.means S.BlockStore (coding S.Reading.Reading.own) (archive_of table.old versions.old store.old) area.old bytes.now result (archive_of table.new versions.new store.new) area.new }
+    ensures law { LoadLaw Q.Summary.means S.BlockStore (coding S.Reading.Reading.own)
+        (archive_of table.old versions.old store.old) area.old bytes.now result
+        (archive_of table.new versions.new store.new) area.new }
     ensures lender { table.new.nodes.ghost_name ≡ table.old.nodes.ghost_name }
 {
     check_head::<S::Reading>(bytes).map_err(|fault| LoadFault { fault, place: 0 })?;
