@@ -1,13 +1,9 @@
 // Reports a journal of counts from standard input, of which the first 32,768 bytes are read.
 #![tactic(auto)]
 
-use report_text::report;
+use report_text::report_stream;
 use std::io;
-use std::io::Read;
 
 fn main(rt: HostRuntime) -> io::Result<()> {
-    let mut bytes = Vec::new(rt.alloc());
-    rt.stdin().take(32_768).read_to_end(&mut bytes)?;
-    let text = report(rt.alloc(), bytes.as_slice())?;
-    print!(rt; "{text}")
+    report_stream(rt.alloc(), &mut rt.stdin(), &mut rt.stdout())
 }
