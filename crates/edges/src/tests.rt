@@ -35,7 +35,7 @@ fn counts() -> [Count; 1100] {
 }
 
 // A table of calls on row stores of counts, in an area of so many readings.
-fn counted<Q: Summary<Reading = Count> + Copy + PartialEq + Debug>(
+fn counted<Q: Summary<Reading = Count> + PartialEq + Debug>(
     rt: &impl Abort,
     heap: Global,
     area: usize,

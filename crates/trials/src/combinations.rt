@@ -11,7 +11,7 @@ use std::io;
 use store::{BlockStore, FlashStore, RowStore};
 
 // A trial over three stores alike, under no, one and two layers; their rows, whose room is in readings of a width, stand in plain lists too.
-fn on_piles<S: BlockStore<Reading = R> + Drop, R: Kind, Q: Scan<Reading = R> + Copy + PartialEq>(
+fn on_piles<S: BlockStore<Reading = R> + Drop, R: Kind, Q: Scan<Reading = R> + PartialEq>(
     trial: &Trial<R>,
     plain: [Rows; 3],
     mut bare: S,
@@ -41,7 +41,7 @@ fn three(heap: Global, room: usize, width: usize) -> [Rows; 3] {
 }
 
 // One plan on row stores.
-fn on_rows<R: Kind, Q: Scan<Reading = R> + Copy + PartialEq>(
+fn on_rows<R: Kind, Q: Scan<Reading = R> + PartialEq>(
     heap: Global,
     plan: Plan,
     lines: [Line; 3],
@@ -62,7 +62,7 @@ fn on_rows<R: Kind, Q: Scan<Reading = R> + Copy + PartialEq>(
 }
 
 // One plan on flash stores, whose areas have a byte over.
-fn on_flash<R: Kind, Q: Scan<Reading = R> + Copy + PartialEq>(
+fn on_flash<R: Kind, Q: Scan<Reading = R> + PartialEq>(
     heap: Global,
     plan: Plan,
     lines: [Line; 3],
@@ -92,7 +92,7 @@ fn print_lines(rt: &impl Print, names: &str, store: &str, lines: &[Line; 3]) -> 
 }
 
 // The six lines of one kind of reading and one summary; answers how many differences there were.
-pub(crate) fn combine<R: Kind, Q: Scan<Reading = R> + Copy + PartialEq>(
+pub(crate) fn combine<R: Kind, Q: Scan<Reading = R> + PartialEq>(
     rt: &(impl AllocGlobal + Print),
     names: &str,
     seed: u32,

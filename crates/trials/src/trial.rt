@@ -69,7 +69,7 @@ fn pool<R: Kind>(heap: Global, draws: &mut Draws) -> Result<Vec<R>, AllocError> 
 }
 
 // Carries out the calls that were played on plain lists, and counts what differs.
-fn differences<S: BlockStore<Reading = R>, R: Kind, Q: Scan<Reading = R> + Copy + PartialEq>(
+fn differences<S: BlockStore<Reading = R>, R: Kind, Q: Scan<Reading = R> + PartialEq>(
     heap: Global,
     room: Room,
     readings: &[R],
@@ -145,7 +145,7 @@ impl<R: Kind> Trial<R> {
     }
 
     // A line with the trial over one store added, whose rows stand in plain lists too.
-    pub(crate) fn run<S: BlockStore<Reading = R> + Drop, Q: Scan<Reading = R> + Copy + PartialEq>(
+    pub(crate) fn run<S: BlockStore<Reading = R> + Drop, Q: Scan<Reading = R> + PartialEq>(
         &self,
         mut line: Line,
         plain: Rows,

@@ -17,7 +17,7 @@ fn level_at(place: u32) -> u8 {
 }
 
 // 500 blocks of one reading by inserts at the end, the last of level 0: it asks for one node more than it writes.
-fn raise<S: BlockStore, Q: Summary<Reading = S::Reading> + Copy + PartialEq + Debug>(
+fn raise<S: BlockStore, Q: Summary<Reading = S::Reading> + PartialEq + Debug>(
     rt: &impl Abort,
     rig: &mut Rig<'_, S, Q>,
 ) -> Result<(), Fail> {
@@ -35,10 +35,7 @@ fn raise<S: BlockStore, Q: Summary<Reading = S::Reading> + Copy + PartialEq + De
 }
 
 // 500 blocks; then calls, held to the table; then the version of 500 blocks against the readings. Answers how many nodes 500 blocks took.
-pub(super) fn crowd<
-    S: BlockStore + Drop,
-    Q: Summary<Reading = S::Reading> + Copy + PartialEq + Debug,
->(
+pub(super) fn crowd<S: BlockStore + Drop, Q: Summary<Reading = S::Reading> + PartialEq + Debug>(
     rt: &impl Abort,
     heap: Global,
     mut store: S,
@@ -65,7 +62,7 @@ pub(super) fn crowd<
 }
 
 // Appends of one reading to the newest version.
-fn appends<S: BlockStore, Q: Summary<Reading = S::Reading> + Copy + PartialEq + Debug>(
+fn appends<S: BlockStore, Q: Summary<Reading = S::Reading> + PartialEq + Debug>(
     rt: &impl Abort,
     rig: &mut Rig<'_, S, Q>,
 ) -> Result<(), Fail> {
@@ -88,7 +85,7 @@ fn appends<S: BlockStore, Q: Summary<Reading = S::Reading> + Copy + PartialEq + 
 }
 
 // Changes of a version of one block, and a removal that takes the last node.
-fn changes<S: BlockStore, Q: Summary<Reading = S::Reading> + Copy + PartialEq + Debug>(
+fn changes<S: BlockStore, Q: Summary<Reading = S::Reading> + PartialEq + Debug>(
     rt: &impl Abort,
     rig: &mut Rig<'_, S, Q>,
 ) -> Result<(), Fail> {
@@ -111,10 +108,12 @@ fn changes<S: BlockStore, Q: Summary<Reading = S::Reading> + Copy + PartialEq + 
 }
 
 // Appends until the nodes that an archive may use run out, though the table has more; then changes and removals to the last node.
-pub(super) fn brim<
-    S: BlockStore + Drop,
-    Q: Summary<Reading = S::Reading> + Copy + PartialEq + Debug,
->(rt: &impl Abort, heap: Global, mut store: S, readings: &[S::Reading]) -> Result<(), Fail> {
+pub(super) fn brim<S: BlockStore + Drop, Q: Summary<Reading = S::Reading> + PartialEq + Debug>(
+    rt: &impl Abort,
+    heap: Global,
+    mut store: S,
+    readings: &[S::Reading],
+) -> Result<(), Fail> {
     let size = Size {
         nodes: 60_400,
         versions: 510,
@@ -134,10 +133,12 @@ pub(super) fn brim<
 }
 
 // Removals that write nothing, until the versions that an archive may have run out, though the table has more.
-pub(super) fn ages<
-    S: BlockStore + Drop,
-    Q: Summary<Reading = S::Reading> + Copy + PartialEq + Debug,
->(rt: &impl Abort, heap: Global, mut store: S, readings: &[S::Reading]) -> Result<(), Fail> {
+pub(super) fn ages<S: BlockStore + Drop, Q: Summary<Reading = S::Reading> + PartialEq + Debug>(
+    rt: &impl Abort,
+    heap: Global,
+    mut store: S,
+    readings: &[S::Reading],
+) -> Result<(), Fail> {
     let size = Size {
         nodes: 5,
         versions: 4_100,
@@ -172,7 +173,7 @@ pub(super) fn ages<
 }
 
 // Six readings in one grouping: bit i of the mask ends a row after the (i + 1)-th reading that is taken, from the front or from the back.
-fn grouped<S: BlockStore, Q: Summary<Reading = S::Reading> + Copy + PartialEq + Debug>(
+fn grouped<S: BlockStore, Q: Summary<Reading = S::Reading> + PartialEq + Debug>(
     rt: &impl Abort,
     rig: &mut Rig<'_, S, Q>,
     mask: u32,
@@ -203,10 +204,12 @@ fn grouped<S: BlockStore, Q: Summary<Reading = S::Reading> + Copy + PartialEq + 
 const LEVELS: [[u8; 6]; 3] = [[0; 6], [1; 6], [0, 1, 0, 2, 0, 1]];
 
 // Six readings in every grouping, with three patterns of levels, from both ends.
-pub(super) fn groupings<
-    S: BlockStore + Drop,
-    Q: Summary<Reading = S::Reading> + Copy + PartialEq + Debug,
->(rt: &impl Abort, heap: Global, mut store: S, readings: &[S::Reading]) -> Result<(), Fail> {
+pub(super) fn groupings<S: BlockStore + Drop, Q: Summary<Reading = S::Reading> + PartialEq + Debug>(
+    rt: &impl Abort,
+    heap: Global,
+    mut store: S,
+    readings: &[S::Reading],
+) -> Result<(), Fail> {
     assert_eq!(rt; readings.len(), 6);
     let size = Size {
         nodes: 60,

@@ -20,7 +20,7 @@ impl Part {
     }
 }
 
-// An edit of a base, by whichever call: an append is an insert at the end, of level 0.
+// An edit of a base, by whichever call. An append is kept as an insert, of level 0 and behind the last block.
 #[derive(Clone, Copy)]
 pub struct Edit {
     pub base: u32,

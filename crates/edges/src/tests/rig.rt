@@ -37,7 +37,7 @@ pub struct Tables<Q> {
     pub versions: Vec<Version>,
 }
 
-impl<Q: Summary + Copy> Tables<Q> {
+impl<Q: Summary> Tables<Q> {
     pub(super) fn free(heap: Global, size: Size) -> Result<Tables<Q>, AllocError> {
         let nodes = vec![in heap; free_node(); size.nodes]?;
         let versions = vec![in heap; free_record(); size.versions]?;
@@ -57,7 +57,7 @@ pub struct Rig<'a, S: BlockStore, Q> {
     mark: S::Reading,
 }
 
-impl<'a, S: BlockStore, Q: Summary<Reading = S::Reading> + Copy + PartialEq + Debug> Rig<'a, S, Q> {
+impl<'a, S: BlockStore, Q: Summary<Reading = S::Reading> + PartialEq + Debug> Rig<'a, S, Q> {
     // The two vectors come apart: the check does not lend two fields of a struct behind one reference at once.
     pub(super) fn begin(
         heap: Global,
@@ -79,7 +79,7 @@ impl<'a, S: BlockStore, Q: Summary<Reading = S::Reading> + Copy + PartialEq + De
     }
 }
 
-impl<S: BlockStore, Q: Summary<Reading = S::Reading> + Copy + PartialEq + Debug> Rig<'_, S, Q> {
+impl<S: BlockStore, Q: Summary<Reading = S::Reading> + PartialEq + Debug> Rig<'_, S, Q> {
     pub(super) fn ends(&self) -> Ends {
         Ends {
             nodes: self.table.used(),
@@ -346,10 +346,7 @@ fn same<T: Copy + PartialEq + Debug>(
 
 // The calls on one archive, and the accepted ones alone on another: both end alike, and the free entries of the tables are as they were
 // found. Answers how many nodes, versions and blocks are in use then.
-pub(super) fn trial<
-    S: BlockStore + Drop,
-    Q: Summary<Reading = S::Reading> + Copy + PartialEq + Debug,
->(
+pub(super) fn trial<S: BlockStore + Drop, Q: Summary<Reading = S::Reading> + PartialEq + Debug>(
     rt: &impl Abort,
     heap: Global,
     mut one: S,

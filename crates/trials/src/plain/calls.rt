@@ -28,7 +28,7 @@ impl Lists {
         }
     }
 
-    // Readings a to b − 1 of a version.
+    // The readings of a version from a on, up to b and without it.
     pub(crate) fn stretch<R: Reading>(
         &self,
         readings: &[R],

@@ -152,7 +152,7 @@ impl Lists {
         self.take(readings, edit)
     }
 
-    // An insert at the end, of level 0.
+    // An insert of level 0 behind the last block.
     pub(crate) fn append<R: Reading>(
         &mut self,
         readings: &[R],

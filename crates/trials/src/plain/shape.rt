@@ -14,7 +14,7 @@ impl Stretch {
     }
 }
 
-// The first place after the leader that has the greatest level; none where no level there is above 0.
+// Where a fork parts a stretch: before the first of its highest blocks, the leader aside; nowhere, if none of them is above level 0.
 fn divide(levels: &[u8], stretch: Stretch) -> Option<usize> {
     let first = stretch.from.saturating_add(1);
     let mut found = None;
@@ -67,7 +67,7 @@ pub(crate) fn path(nodes: &[Stretch], place: usize) -> usize {
     nodes.iter().filter(|node| node.has(place)).count()
 }
 
-// How many nodes the paths to a block and to the one before it have together.
+// How many nodes lie on a block's path, on that of its left neighbour, or on both.
 pub(crate) fn paths(nodes: &[Stretch], place: usize) -> usize {
     let before = place.saturating_sub(1);
     nodes
