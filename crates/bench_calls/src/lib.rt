@@ -107,3 +107,6 @@ pub extern "C" fn bench_calls_summary(
 {
     Told::of(asking::summary(heap, journal, version, len, starts, rounds))
 }
+
+#[cfg(test)]
+mod tests;
