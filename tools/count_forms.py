@@ -49,7 +49,7 @@ PATTERNS = [
     ("5b block and length apart", r"block: u32,\s+length: u32,\s+\)|block: u32,\s+length: u32,\s+after: Option"),
     ("5c tables written out in a clause", r"\(record \{ nodes = [^}]*\}\)"),
     ("5d a kind's coding written out in a clause", r"record \{ code = [^}]*\}|coding (?:\w+\.)+coded (?:\w+\.)+wide (?:\w+\.)+bytes"),
-    ("5e whose memory a table is", r"ensures lender"),
+    ("5e whose memory a table is", r"ensures (?:lender|same_slice)"),
     ("5f code and width twice", r"fn (?:kind_code|byte_width)\(\)"),
     ("5g a store's two ghost members, one after the other", r"BlockStore\.rows (?:\w+\.)*BlockStore\.refuses"),
     # 6: buffers with a length beside, arenas

@@ -7,10 +7,10 @@ use Rattle.std.proofs.lemmas.Bool.{cond-false}
 use Rattle.summary.specs.Summing.{Summing}
 use Rattle.flexlist.specs.Shape.{FlexList}
 use Rattle.flexlist.specs.Nodes.{nodes, to_place}
-use Rattle.laid.specs.Laid.{Laid, plain}
-use Rattle.history.specs.Edits.{Item, Edit, Known, list_of, blocks_of, content_of, identities_of}
-use Rattle.history.specs.Replay.{path}
-use Rattle.history.proofs.Sound.{version_sound}
+use Rattle.flexlist.specs.Laid.{Laid, plain}
+use Rattle.flexlist.specs.Edits.{Item, Edit, Known, list_of, blocks_of, content_of, identities_of}
+use Rattle.flexlist.specs.Replay.{path}
+use Rattle.flexlist.proofs.Sound.{version_sound}
 use Rattle.questions.specs.Storing.{AllStored}
 use Rattle.questions.specs.declared.found.Answer.{Answer}
 use Rattle.questions.specs.Readings.{in_order, row_with, rows_of, readings_of, Small, Stands as StandingTree}
@@ -88,8 +88,8 @@ module _ {R Q S : Type 0} (means : Summing R Q) (rows : S → List (List R)) (s 
         let known = (version_sound es v).known in
         record {
           stands = record { holds = w.holds; here = sym base.told_of.root_is };
-          stored = in_store es xs t w.shaped known w.fair w.few (rows store) (st.stored v);
-          small = few_readings es xs t w.shaped known w.fair w.few;
+          stored = in_store es xs t w.shaped known w.in_limits w.few (rows store) (st.stored v);
+          small = few_readings es xs t w.shaped known w.in_limits w.few;
           readings = readings_are es xs t w.shaped known;
         }
 

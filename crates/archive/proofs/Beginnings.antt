@@ -4,10 +4,10 @@ use Rattle.std.specs.List.{slice_get}
 use Rattle.summary.specs.Summing.{Summing}
 use Rattle.flexlist.specs.Shape.{alone}
 use Rattle.flexlist.specs.Nodes.{Among}
-use Rattle.laid.specs.Laid.{Laid, last}
-use Rattle.laid.specs.Shared.{Spot, spots}
-use Rattle.history.specs.Edits.{lead, lists}
-use Rattle.history.specs.Replay.{node_count}
+use Rattle.flexlist.specs.Laid.{Laid, last}
+use Rattle.flexlist.specs.Shared.{PlacedNode, placed_nodes}
+use Rattle.flexlist.specs.Edits.{lead, lists}
+use Rattle.flexlist.specs.Replay.{node_count}
 use Rattle.nodes.specs.declared.node.Node.{Node}
 use Rattle.nodes.specs.Holding.{leaf_node, node_of}
 use Rattle.nodes.proofs.Tables.{nth_set_same}
@@ -38,16 +38,16 @@ module _ {R Q : Type 0} (means : Summing R Q) (nodes : List (Node Q)) (versions 
     own = λ x y h k e. only x y h k;
     under = λ x h. low x h;
     recorded = nth_set_same versions 0 (begun_record 0) some_version;
-    fair = tt;
+    in_limits = tt;
     few = omega arith;
   }
     where
-      only : (x y : Spot) → Among x (spots (last 0 0)) → Among y (spots (last 0 0)) → x ≡ y
+      only : (x y : PlacedNode) → Among x (placed_nodes (last 0 0)) → Among y (placed_nodes (last 0 0)) → x ≡ y
       only x y (inl h) (inl k) = h ∙ sym k
       only x y (inl h) (inr k) = absurd k
       only x y (inr h) k = absurd h
 
-      low : (x : Spot) → Among x (spots (last 0 0)) → x.entry < 1
+      low : (x : PlacedNode) → Among x (placed_nodes (last 0 0)) → x.entry < 1
       low x (inl h) = let e = ap (λ z. z.entry) h in omega arith
       low x (inr h) = absurd h
 

@@ -3,11 +3,11 @@ use Rattle.store.specs.Keeping.{Keeping}
 use Rattle.std.proofs.Common.{◌≡◌, ℕ, Bool, leb, ◌+◌, ◌-◌, ◌<◌, inl, inr, List, ◌∷◌, length, Some, None, Ok, Err, Option, Result, sym, refl, ap, ◌∙◌, subst, arith, ltb-false, leb-false}
 use Rattle.summary.specs.Summing.{Summing, Lawful}
 use Rattle.store.specs.declared.cause.Cause.{Cause}
-use Rattle.history.specs.Edits.{Content, Edit, list_of}
-use Rattle.history.specs.Edits as edits
-use Rattle.history.specs.Replay.{InPlace, WithinBound, written_by}
-use Rattle.history.proofs.Chains.{chains_replayed}
-use Rattle.history.proofs.Bounds.{edits_bounded}
+use Rattle.flexlist.specs.Edits.{Content, Edit, list_of}
+use Rattle.flexlist.specs.Edits as edits
+use Rattle.flexlist.specs.Replay.{InPlace, WithinBound, written_by}
+use Rattle.flexlist.proofs.Chains.{chains_replayed}
+use Rattle.flexlist.proofs.EditBounds.{edits_bounded}
 use Rattle.nodes.specs.declared.node.Node.{Node}
 use Rattle.nodes.specs.declared.walks.Built.{Built}
 use Rattle.questions.specs.declared.found.Answer.{Answer}
@@ -172,7 +172,7 @@ module _ {R Q S : Type 0} (means : Summing R Q) (keeps : Keeping S R) (s t : Arc
       growth = d.growth;
       within = d.within;
       sized = d.sized;
-      grown = d.grown;
+      free_only = d.free_only;
       noted = d.noted;
       recorded = d.recorded;
       says = (let y = d.says in record {

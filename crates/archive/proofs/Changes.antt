@@ -6,14 +6,14 @@ use Rattle.std.proofs.ByRecursion.{All-append, All-take, All-drop}
 use Rattle.summary.specs.Summing.{Summing}
 use Rattle.store.specs.Interface.{Taken, OneCause}
 use Rattle.flexlist.specs.Building.{Plan, made}
-use Rattle.laid.specs.Laid.{Laid, lay, whole}
-use Rattle.history.specs.Edits.{Content, Item, Edit, Known, change, list_of, content_of, first_changed}
-use Rattle.history.specs.Replay.{path, written_by, next_list}
-use Rattle.history.proofs.Sound.{version_sound}
-use Rattle.history.proofs.Bounds.{edits_bounded}
+use Rattle.flexlist.specs.Laid.{Laid, lay, whole}
+use Rattle.flexlist.specs.Edits.{Content, Item, Edit, Known, change, list_of, content_of, first_changed}
+use Rattle.flexlist.specs.Replay.{path, written_by, next_list}
+use Rattle.flexlist.proofs.Sound.{version_sound}
+use Rattle.flexlist.proofs.EditBounds.{edits_bounded}
 use Rattle.nodes.specs.declared.node.Node.{Node}
 use Rattle.nodes.specs.declared.node.Block.{Block}
-use Rattle.nodes.specs.Holding.{Grown}
+use Rattle.nodes.specs.Holding.{WritesFreeOnly}
 use Rattle.nodes.specs.Making.{LeafOf}
 use Rattle.nodes.specs.Views.{blocks_in, readings_in as readings_at}
 use Rattle.nodes.specs.Changing.{change_at, Changed}
@@ -23,7 +23,7 @@ use Rattle.nodes.proofs.Plans.{change_plain}
 use Rattle.archive.specs.declared.version.Version.{Version}
 use Rattle.archive.specs.declared.version.Kind.TheVariants.{Change}
 use Rattle.archive.specs.Records.{readings_in, edit_record}
-use Rattle.archive.specs.Stands.{Tables, Fair, Stands, node_limit, version_limit}
+use Rattle.archive.specs.Stands.{Tables, WithinLimits, Stands, node_limit, version_limit}
 use Rattle.archive.specs.Refusals.{change_refusal}
 use Rattle.archive.specs.Looking.{RefusedOr}
 use Rattle.archive.specs.Editing.{ByRefusal, RowAcceptedAs, RowAccepted}
@@ -31,7 +31,7 @@ use Rattle.archive.proofs.Later.{list_new}
 use Rattle.archive.proofs.Planned.{change_planned, laid_shape}
 use Rattle.archive.proofs.Tried.{passed, all_passed}
 use Rattle.archive.proofs.Looks.{found_below, BaseFound}
-use Rattle.archive.proofs.Edited.{kept_spots, brought_leaf, base_ready, base_place, made_is, has_room, edit_stands}
+use Rattle.archive.proofs.Edited.{kept_placed, brought_leaf, base_ready, base_place, made_is, has_room, edit_stands}
 use Rattle.archive.proofs.Inserts.{looked_ok, looked_accepted, block_new, sub_is, placed_kept, placed_new, rows_kept, rows_next}
 use Rattle.archive.proofs.Roots.{root_blocks, root_readings}
 
@@ -59,7 +59,7 @@ module _ {R Q S : Type 0} (means : Summing R Q) (keeps : Keeping S R) (s : Table
   noted = record { parent = base; edit = Change; place = place; level = 0; block = block.number; root = at; blocks = some_blocks; readings = some_readings; written = next - s.used }
 
   module _ (es : List (Edit R)) (st : Stands means keeps.rows es s store) (looked : RefusedOr (change_refusal s es base place (length row)) (slice_get s.versions base) (Ok from))
-      (taken : Taken keeps.rows keeps.refuses keeps.area_long store row n after) (leaf : LeafOf means (record { number = n; row = row }) block) (grown : Grown s.nodes s.used nodes next)
+      (taken : Taken keeps.rows keeps.refuses keeps.area_long store row n after) (leaf : LeafOf means (record { number = n; row = row }) block) (free_only : WritesFreeOnly s.nodes s.used nodes next)
       (walked : Changed means s.nodes s.used from.root (place + 1) block nodes at next) (size : length nodes ≡ length s.nodes)
       (blocks_read : some_blocks ≡ blocks_in (slice_get nodes at)) (readings_read : some_readings ≡ readings_at (slice_get nodes at)) where
     new : Content R
@@ -84,7 +84,7 @@ module _ {R Q S : Type 0} (means : Summing R Q) (keeps : Keeping S R) (s : Table
         let open_table = leb-false (version_limit s) (suc (length es)) p.open_table in
         let kept = placed_kept (keeps.rows store) (keeps.rows after) row n taken.placed in
         let plan : Plan Laid = change_at (suc (length es)) b.tree (suc place) in
-        let planned = change_planned es base place b.tree plan w.shaped (kept_spots b.tree plan (change_keeps b.tree (suc (length es)) b.tree (suc place) whole)) new in_place (change_plain (suc (length es)) b.tree (suc place)) in
+        let planned = change_planned es base place b.tree plan w.shaped (kept_placed b.tree plan (change_keeps b.tree (suc (length es)) b.tree (suc place) whole)) new in_place (change_plain (suc (length es)) b.tree (suc place)) in
         let exact = edits_bounded es e in_place in
         let bound : written_by es e ≤ path xs (suc place) = omega arith in
         let count_is = tb.counted in
@@ -98,14 +98,14 @@ module _ {R Q S : Type 0} (means : Summing R Q) (keeps : Keeping S R) (s : Table
         let mw : made plan ≡ written_by es e = made_is means s es tb e from b plan planned in
         let up : next ≡ s.used + made plan = out.used_up in
         let fits = tb.nodes_fit in
-        let fair : AllByRecursion Fair (next_list es e) = all_changed Fair (suc (length es)) place new xs (λ x h. record { level = h.level; some = p.some; most = p.most }) w.fair in
+        let in_limits : AllByRecursion WithinLimits (next_list es e) = all_changed WithinLimits (suc (length es)) place new xs (λ x h. record { level = h.level; some = p.some; most = p.most }) w.in_limits in
         let long = length_changed (suc (length es)) place new xs in
         let many = w.few in
         let few : length (next_list es e) ≤ 500 = omega arith in
         let known : AllByRecursion (Known (e ∷ es)) (next_list es e) = subst (AllByRecursion (Known (e ∷ es))) (list_new e es) (version_sound (e ∷ es) (suc (length es))).known in
         let shaped = laid_shape es e b.tree plan s.used w.shaped w.own w.under planned in
-        let blocks : some_blocks ≡ length (next_list es e) = blocks_read ∙ root_blocks (e ∷ es) (next_list es e) (lay plan s.used) shaped known fair few means nodes at out.holds out.here in
-        let readings : some_readings ≡ readings_in (next_list es e) = readings_read ∙ root_readings (e ∷ es) (next_list es e) (lay plan s.used) shaped known fair few means nodes at out.holds out.here in
+        let blocks : some_blocks ≡ length (next_list es e) = blocks_read ∙ root_blocks (e ∷ es) (next_list es e) (lay plan s.used) shaped known in_limits few means nodes at out.holds out.here in
+        let readings : some_readings ≡ readings_in (next_list es e) = readings_read ∙ root_readings (e ∷ es) (next_list es e) (lay plan s.used) shaped known in_limits few means nodes at out.holds out.here in
         let grew : next ≡ s.used + written_by es e = up ∙ ap (λ k. s.used + k) mw in
         let count : next - s.used ≡ written_by es e = sub_is next s.used (written_by es e) grew in
         let is : noted ≡ edit_record es e (next_list es e) at = λ i. record { parent = base; edit = Change; place = place; level = 0; block = leaf.number i; root = at; blocks = blocks i; readings = readings i; written = count i } in
@@ -113,7 +113,7 @@ module _ {R Q S : Type 0} (means : Summing R Q) (keeps : Keeping S R) (s : Table
         record {
           written = grew;
           stands = record {
-            tables = edit_stands means s es tb e from b plan planned nodes at next noted out grown size (omega arith) (omega arith) is fair few;
+            tables = edit_stands means s es tb e from b plan planned nodes at next noted out free_only size (omega arith) (omega arith) is in_limits few;
             stored = rows_next (keeps.rows after) e es (λ v. rows_kept (keeps.rows store) (keeps.rows after) kept (list_of es v) (st.stored v))
                 (all_changed (λ x. slice_get (keeps.rows after) x.content.number ≡ Some x.content.row) (suc (length es)) place new xs (λ x _. placed_new (keeps.rows store) (keeps.rows after) row n taken.placed) stored);
           };

@@ -7,20 +7,20 @@ use Rattle.summary.specs.Summing.{Summing}
 use Rattle.flexlist.specs.Building.{Plan, keep, new_last, new_leaf, new_fork, made}
 use Rattle.flexlist.specs.Nodes.{Among}
 use Rattle.flexlist.proofs.Lists.{among_left, among_right}
-use Rattle.laid.specs.Laid.{Laid, leaf, fork, lay, Part, whole, in_rest, in_below, in_after, KeptParts}
-use Rattle.laid.specs.Shared.{Spot, spots, KeepsSpots}
-use Rattle.history.specs.Edits.{Edit, Known, base_of, brought, list_of, content_of}
-use Rattle.history.specs.Replay.{written_by, next_list}
-use Rattle.history.proofs.Sound.{known_later, version_sound}
+use Rattle.flexlist.specs.Laid.{Laid, leaf, fork, lay, Part, whole, in_rest, in_below, in_after, KeptParts}
+use Rattle.flexlist.specs.Shared.{PlacedNode, placed_nodes, KeepsPlacedNodes}
+use Rattle.flexlist.specs.Edits.{Edit, Known, base_of, brought, list_of, content_of}
+use Rattle.flexlist.specs.Replay.{written_by, next_list}
+use Rattle.flexlist.proofs.Sound.{known_later, version_sound}
 use Rattle.nodes.specs.declared.node.Node.{Node}
 use Rattle.nodes.specs.declared.node.Block.{Block}
-use Rattle.nodes.specs.Holding.{Grown}
+use Rattle.nodes.specs.Holding.{WritesFreeOnly}
 use Rattle.nodes.specs.Making.{LeafOf}
 use Rattle.nodes.specs.Walking.{Ready, Room, LaidOut, CountedTo}
 use Rattle.nodes.proofs.Tables.{nth_set_same, nth_set_other}
 use Rattle.archive.specs.declared.version.Version.{Version}
 use Rattle.archive.specs.Records.{edit_record}
-use Rattle.archive.specs.Stands.{Tables, Fair, TablesStand, node_limit, version_limit, tables_of}
+use Rattle.archive.specs.Stands.{Tables, WithinLimits, TablesStand, node_limit, version_limit, tables_of}
 use Rattle.archive.proofs.Moved.{holds_moved}
 use Rattle.archive.proofs.Next.{agree_later, stands_next}
 use Rattle.archive.proofs.Standing.{ready, lead_empty, leaves_are}
@@ -28,17 +28,17 @@ use Rattle.archive.proofs.Planned.{PlanFor, laid_shape, made_written, laid_share
 use Rattle.archive.proofs.Looks.{BaseFound}
 
 -- the nodes of a part are nodes of the whole, at their entries
-part_spots : (t base : Laid) → Part t base → (x : Spot) → Among x (spots t) → Among x (spots base)
-part_spots t base whole x h = h
-part_spots t (leaf e a s) (in_rest p) x h = inr (part_spots t s p x h)
-part_spots t (fork e m s y) (in_below p) x h = inr (among_left x (spots s) (spots y) (part_spots t s p x h))
-part_spots t (fork e m s y) (in_after p) x h = inr (among_right x (spots s) (spots y) (part_spots t y p x h))
+part_placed : (t base : Laid) → Part t base → (x : PlacedNode) → Among x (placed_nodes t) → Among x (placed_nodes base)
+part_placed t base whole x h = h
+part_placed t (leaf e a s) (in_rest p) x h = inr (part_placed t s p x h)
+part_placed t (fork e m s y) (in_below p) x h = inr (among_left x (placed_nodes s) (placed_nodes y) (part_placed t s p x h))
+part_placed t (fork e m s y) (in_after p) x h = inr (among_right x (placed_nodes s) (placed_nodes y) (part_placed t y p x h))
 
-pub kept_spots : (base : Laid) (plan : Plan Laid) → KeptParts base plan → KeepsSpots base plan
-kept_spots base (keep t) k = part_spots t base k
-kept_spots base (new_last a) k = tt
-kept_spots base (new_leaf a x) k = kept_spots base x k
-kept_spots base (new_fork m x y) k = (kept_spots base x k.0, kept_spots base y k.1)
+pub kept_placed : (base : Laid) (plan : Plan Laid) → KeptParts base plan → KeepsPlacedNodes base plan
+kept_placed base (keep t) k = part_placed t base k
+kept_placed base (new_last a) k = tt
+kept_placed base (new_leaf a x) k = kept_placed base x k
+kept_placed base (new_fork m x y) k = (kept_placed base x k.0, kept_placed base y k.1)
 
 module _ {R Q : Type 0} (means : Summing R Q) (s : Tables Q) (es : List (Edit R)) (st : TablesStand means es s) (e : Edit R) (from : Version) (b : BaseFound means s es st (base_of e) from) where
   known : AllByRecursion (Known (e ∷ es)) (list_of es (base_of e))
@@ -58,13 +58,13 @@ module _ {R Q : Type 0} (means : Summing R Q) (s : Tables Q) (es : List (Edit R)
       let t = b.tree in
       let moved = holds_moved means (content_of es) (content_of (e ∷ es)) s.nodes s.nodes t (agree_later means e es (base_of e) t w.shaped) (λ x k. refl) w.holds in
       subst (λ r. Ready means (content_of (e ∷ es)) s.nodes s.used r t) (sym b.told_of.root_is)
-      (ready (e ∷ es) (list_of es (base_of e)) t w.shaped known w.fair w.few means s.nodes s.used moved w.under)
+      (ready (e ∷ es) (list_of es (base_of e)) t w.shaped known w.in_limits w.few means s.nodes s.used moved w.under)
 
   pub base_place : (place : ℕ) → place ≤ length (list_of es (base_of e)) → CountedTo (content_of (e ∷ es)) b.tree place place
   base_place place h =
       let w = b.stands in
-      let n = leaves_are (e ∷ es) (list_of es (base_of e)) b.tree w.shaped known w.fair w.few in
-      let own = lead_empty (e ∷ es) (list_of es (base_of e)) b.tree w.shaped known w.fair w.few in
+      let n = leaves_are (e ∷ es) (list_of es (base_of e)) b.tree w.shaped known w.in_limits w.few in
+      let own = lead_empty (e ∷ es) (list_of es (base_of e)) b.tree w.shaped known w.in_limits w.few in
       (omega arith, omega arith)
 
   module _ (plan : Plan Laid) (planned : PlanFor es e b.tree plan) where
@@ -80,10 +80,10 @@ module _ {R Q : Type 0} (means : Summing R Q) (s : Tables Q) (es : List (Edit R)
 
     -- the tables after the edit
     pub edit_stands : (after : List (Node Q)) (at next : ℕ) (v : Version) → LaidOut means (content_of (e ∷ es)) s.used plan after at next
-        → Grown s.nodes s.used after next → length after ≡ length s.nodes → next ≤ node_limit s → s.count < version_limit s
-        → v ≡ edit_record es e (next_list es e) at → AllByRecursion Fair (next_list es e) → length (next_list es e) ≤ 500
+        → WritesFreeOnly s.nodes s.used after next → length after ≡ length s.nodes → next ≤ node_limit s → s.count < version_limit s
+        → v ≡ edit_record es e (next_list es e) at → AllByRecursion WithinLimits (next_list es e) → length (next_list es e) ≤ 500
         → TablesStand means (e ∷ es) (tables_of after next (set s.versions s.count v) (s.count + 1))
-    edit_stands after at next v l g size fits room is fair few =
+    edit_stands after at next v l g size fits room is in_limits few =
         let w = b.stands in
         let m = made_is in
         let up = l.used_up in
@@ -95,13 +95,13 @@ module _ {R Q : Type 0} (means : Summing R Q) (s : Tables Q) (es : List (Edit R)
           shaped = laid_shape es e b.tree plan s.used w.shaped w.own w.under planned;
           shared = laid_shared es e b.tree plan s.used w.shaped w.own w.under planned;
           holds = l.holds;
-          grown = g;
+          free_only = g;
           used_up = omega arith;
           counted = omega arith;
           nodes_fit = omega arith;
           versions_fit = omega arith;
           versions_kept = λ k h. nth_set_other s.versions s.count k v (λ i. omega arith);
           version_new = nth_set_same s.versions s.count v (omega arith) ∙ ap Some (is ∙ ap (edit_record es e (next_list es e)) (sym l.here));
-          fair = fair;
+          in_limits = in_limits;
           few = few;
         })

@@ -1,10 +1,10 @@
 -- Each node of an archive holds the summary and the counts of the readings under it. Assumes nothing.
 use Rattle.std.proofs.Common.{List, sym, refl, ap}
 use Rattle.summary.specs.Summing.{Summing, Lawful}
-use Rattle.laid.specs.Laid.{Laid, leaf, fork, root, Part}
-use Rattle.laid.specs.Laid as laid
-use Rattle.history.specs.Edits.{Edit, list_of, content_of}
-use Rattle.history.proofs.Sound.{version_sound}
+use Rattle.flexlist.specs.Laid.{Laid, leaf, fork, root, Part}
+use Rattle.flexlist.specs.Laid as laid
+use Rattle.flexlist.specs.Edits.{Edit, list_of, content_of}
+use Rattle.flexlist.proofs.Sound.{version_sound}
 use Rattle.nodes.specs.declared.node.Node.{Node}
 use Rattle.nodes.specs.Holding.{Holds, Counted, node_of}
 use Rattle.nodes.specs.Views.{blocks_in, readings_in}
@@ -42,4 +42,4 @@ pub nodes_hold : {R Q : Type 0} (means : Summing R Q) → Lawful means → Nodes
 nodes_hold means lawful es s st v tree at stretch part =
     let w = st.each v tree at in
     let known = (version_sound es v).known in
-    parts means lawful es s.nodes stretch tree part w.holds (small es (list_of es v) tree w.shaped known w.fair w.few) (counted es (list_of es v) tree w.shaped known w.fair w.few)
+    parts means lawful es s.nodes stretch tree part w.holds (small es (list_of es v) tree w.shaped known w.in_limits w.few) (counted es (list_of es v) tree w.shaped known w.in_limits w.few)

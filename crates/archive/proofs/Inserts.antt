@@ -9,15 +9,15 @@ use Rattle.summary.specs.Summing.{Summing}
 use Rattle.store.specs.declared.cause.Cause.{Cause}
 use Rattle.store.specs.Interface.{Placed, earlier, added, Taken, OneCause}
 use Rattle.flexlist.specs.Building.{Plan, made}
-use Rattle.laid.specs.Laid.{Laid, whole}
-use Rattle.history.specs.Edits.{Content, Item, Edit, insert, list_of, lists, content_of}
-use Rattle.history.specs.Replay.{path, written_by, next_list}
-use Rattle.history.proofs.Sound.{histories_sound}
-use Rattle.history.proofs.Bounds.{edits_bounded}
+use Rattle.flexlist.specs.Laid.{Laid, whole}
+use Rattle.flexlist.specs.Edits.{Content, Item, Edit, insert, list_of, lists, content_of}
+use Rattle.flexlist.specs.Replay.{path, written_by, next_list}
+use Rattle.flexlist.proofs.Sound.{histories_sound}
+use Rattle.flexlist.proofs.EditBounds.{edits_bounded}
 use Rattle.nodes.specs.declared.node.Node.{Node}
 use Rattle.nodes.specs.declared.node.Block.{Block}
 use Rattle.nodes.specs.declared.walks.Built.{Built}
-use Rattle.nodes.specs.Holding.{Grown}
+use Rattle.nodes.specs.Holding.{WritesFreeOnly}
 use Rattle.nodes.specs.Making.{LeafOf}
 use Rattle.nodes.specs.Cutting.{insert_at, Inserted}
 use Rattle.nodes.specs.Walking.{LaidOut}
@@ -29,7 +29,7 @@ use Rattle.archive.specs.declared.fault.EditFault.{EditFault}
 use Rattle.archive.specs.declared.fault.EditFault.TheVariants.{Store}
 use Rattle.archive.specs.Records.{readings_in, edit_record, block_in, block_at}
 use Rattle.nodes.proofs.Tables.{nth_set_same}
-use Rattle.archive.specs.Stands.{Tables, Fair, RowsStand, Stands, node_limit, version_limit}
+use Rattle.archive.specs.Stands.{Tables, WithinLimits, RowsStand, Stands, node_limit, version_limit}
 use Rattle.archive.specs.Refusals.{insert_refusal}
 use Rattle.archive.specs.Looking.{RefusedOr}
 use Rattle.archive.specs.Editing.{ByRefusal, RowAcceptedAs, RowAccepted}
@@ -37,7 +37,7 @@ use Rattle.archive.proofs.Later.{nth_front, nth_end, list_later, list_new}
 use Rattle.archive.proofs.Planned.{insert_planned}
 use Rattle.archive.proofs.Tried.{passed, all_passed}
 use Rattle.archive.proofs.Looks.{found_below, BaseFound}
-use Rattle.archive.proofs.Edited.{kept_spots, brought_leaf, base_ready, base_place, made_is, has_room, edit_stands}
+use Rattle.archive.proofs.Edited.{kept_placed, brought_leaf, base_ready, base_place, made_is, has_room, edit_stands}
 
 -- a look that answers a record has met no refusal
 pub looked_ok : (o : Option EditFault) (v : Option Version) (from : Version) → RefusedOr o v (Ok from) → (o ≡ None) × (v ≡ Some from)
@@ -75,7 +75,7 @@ module _ {R : Type 0} where
       let b : readings_in xs ≡ readings_in (take p xs) + readings_in (drop p xs) = ap readings_in (sym (take-append-drop p xs)) ∙ readings_append (take p xs) (drop p xs) in
       omega arith
 
-  pub readings_few : (xs : List (Item R)) → AllByRecursion Fair xs → readings_in xs ≤ length xs * 1024
+  pub readings_few : (xs : List (Item R)) → AllByRecursion WithinLimits xs → readings_in xs ≤ length xs * 1024
   unfolding readings_in
   readings_few [] h = omega arith
   readings_few (x ∷ xs) h = let ih = readings_few xs h.1 in let m = h.0.most in omega arith
@@ -124,7 +124,7 @@ module _ {R Q S : Type 0} (means : Summing R Q) (keeps : Keeping S R) (s : Table
   noted = record { parent = base; edit = Insert; place = place; level = level; block = block.number; root = at; blocks = (from.blocks + 1) % 2 ^ 32; readings = (from.readings + block.length) % 2 ^ 32; written = next - s.used }
 
   module _ (es : List (Edit R)) (st : Stands means keeps.rows es s store) (looked : RefusedOr (insert_refusal s es base place level (length row)) (slice_get s.versions base) (Ok from))
-      (taken : Taken keeps.rows keeps.refuses keeps.area_long store row n after) (leaf : LeafOf means (record { number = n; row = row }) block) (grown : Grown s.nodes s.used nodes next)
+      (taken : Taken keeps.rows keeps.refuses keeps.area_long store row n after) (leaf : LeafOf means (record { number = n; row = row }) block) (free_only : WritesFreeOnly s.nodes s.used nodes next)
       (walked : Inserted means s.nodes s.used from.root place block nodes at next level) (size : length nodes ≡ length s.nodes) where
     new : Content R
     new = record { number = n; row = row }
@@ -151,7 +151,7 @@ module _ {R Q S : Type 0} (means : Summing R Q) (keeps : Keeping S R) (s : Table
         let open_table = leb-false (version_limit s) (suc (length es)) p.open_table in
         let kept = placed_kept (keeps.rows store) (keeps.rows after) row n taken.placed in
         let plan : Plan Laid = insert_at (suc (length es)) level b.tree place in
-        let planned = insert_planned es base place b.tree plan w.shaped (kept_spots b.tree plan (insert_keeps b.tree (suc (length es)) level b.tree place whole)) level new in_place (insert_plain (suc (length es)) level b.tree place) in
+        let planned = insert_planned es base place b.tree plan w.shaped (kept_placed b.tree plan (insert_keeps b.tree (suc (length es)) level b.tree place whole)) level new in_place (insert_plain (suc (length es)) level b.tree place) in
         let bound = edits_bounded es e in_place in
         let count_is = tb.counted in
         let used_is = tb.used_up in
@@ -162,18 +162,18 @@ module _ {R Q S : Type 0} (means : Summing R Q) (keeps : Keeping S R) (s : Table
         let up : next ≡ s.used + made plan = out.used_up in
         let fits = tb.nodes_fit in
         let item : Item R = record { identity = suc (length es); level = level; content = new } in
-        let fair : AllByRecursion Fair (next_list es e) = all_between Fair place xs item w.fair (record { level = p.flat; some = p.some; most = p.most }) in
+        let in_limits : AllByRecursion WithinLimits (next_list es e) = all_between WithinLimits place xs item w.in_limits (record { level = p.flat; some = p.some; most = p.most }) in
         let long = length_between place xs item in_place in
         let few : length (next_list es e) ≤ 500 = omega arith in
         let blocks : (from.blocks + 1) % 2 ^ 32 ≡ length (next_list es e) = (let q = b.told_of.blocks_is in mod-eq_of_lt (omega arith) ∙ omega arith) in
-        let readings : (from.readings + block.length) % 2 ^ 32 ≡ readings_in (next_list es e) = (let z : block.length ≡ length row = leaf.size in let q = b.told_of.readings_is in let l = readings_few xs w.fair in let m = p.most in mod-eq_of_lt (omega arith) ∙ (let t = readings_between place xs item in omega arith)) in
+        let readings : (from.readings + block.length) % 2 ^ 32 ≡ readings_in (next_list es e) = (let z : block.length ≡ length row = leaf.size in let q = b.told_of.readings_is in let l = readings_few xs w.in_limits in let m = p.most in mod-eq_of_lt (omega arith) ∙ (let t = readings_between place xs item in omega arith)) in
         let grew : next ≡ s.used + written_by es e = up ∙ ap (λ k. s.used + k) mw in
         let count : next - s.used ≡ written_by es e = sub_is next s.used (written_by es e) grew in
         let is : noted ≡ edit_record es e (next_list es e) at = λ i. record { parent = base; edit = Insert; place = place; level = level; block = leaf.number i; root = at; blocks = blocks i; readings = readings i; written = count i } in
         record {
           written = grew;
           stands = record {
-            tables = edit_stands means s es tb e from b plan planned nodes at next noted out grown size (omega arith) (omega arith) is fair few;
+            tables = edit_stands means s es tb e from b plan planned nodes at next noted out free_only size (omega arith) (omega arith) is in_limits few;
             stored = rows_next (keeps.rows after) e es (λ v. rows_kept (keeps.rows store) (keeps.rows after) kept (list_of es v) (st.stored v))
                 (all_between (λ x. slice_get (keeps.rows after) x.content.number ≡ Some x.content.row) place xs item (rows_kept (keeps.rows store) (keeps.rows after) kept xs (st.stored base)) (placed_new (keeps.rows store) (keeps.rows after) row n taken.placed));
           };

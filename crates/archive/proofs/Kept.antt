@@ -1,20 +1,20 @@
 -- What an edit leaves, whatever the tables hold, from what its look, its put, its walk and its record leave. Assumes nothing.
 use Rattle.store.specs.Keeping.{Keeping}
-use Rattle.std.proofs.Common.{◌≡◌, ℕ, ◌+◌, ◌-◌, ◌<◌, ◌≤◌, ◌⊎◌, inl, inr, min, max, Bool, false, cond, ◌||◌, leb, ltb, List, length, set, Some, None, Ok, Err, Option, Result, sym, refl, ap, ◌∙◌, subst, arith}
+use Rattle.std.proofs.Common.{◌≡◌, ℕ, ◌-◌, ◌<◌, ◌≤◌, inl, inr, max, Bool, false, leb, List, length, set, Some, None, Ok, Err, Option, Result, sym, refl, ap, ◌∙◌, subst, arith}
 use Rattle.summary.specs.Summing.{Summing}
 use Rattle.store.specs.declared.cause.Cause.{Cause}
 use Rattle.nodes.specs.declared.node.Node.{Node}
 use Rattle.nodes.specs.declared.walks.Built.{Built}
-use Rattle.nodes.specs.Holding.{Grown, capacity}
+use Rattle.nodes.specs.Holding.{WritesFreeOnly, capacity}
 use Rattle.archive.specs.declared.version.Version.{Version}
 use Rattle.archive.specs.declared.fault.EditFault.{EditFault}
 use Rattle.archive.specs.declared.fault.EditFault.TheVariants as fault
-use Rattle.archive.specs.Stands.{Tables, tables_of, node_limit, version_limit}
-use Rattle.archive.specs.Refusals.{early_fault, insert_early, change_early}
+use Rattle.archive.specs.Stands.{Tables, node_limit, version_limit}
+use Rattle.archive.specs.Refusals.{insert_early, change_early}
 use Rattle.archive.specs.Records.{block_at}
 use Rattle.archive.specs.Looking.{in_use, LookEnds, LookBy}
-use Rattle.archive.specs.Editing.{archive_in, tables_after, accepted_as, EditLeft}
-use Rattle.archive.specs.Calling.{Archive, Asked, asked_base, asked_place, asked_level, asked_kind, AskedSized, record_refusal, early_refusal, RowPut, RowRefused, Recorded, EditDone, LateRefusal, no_path, few_nodes, no_fit, RefusedBy}
+use Rattle.archive.specs.Editing.{archive_in, EditLeft}
+use Rattle.archive.specs.Calling.{Archive, Asked, asked_base, asked_place, asked_level, asked_kind, AskedSized, record_refusal, early_refusal, RowPut, RowRefused, no_path, few_nodes, no_fit, RefusedBy}
 use Rattle.archive.proofs.Tried.{passed, early_passed, EarlyPassed}
 use Rattle.archive.proofs.Inserts.{block_new}
 
@@ -68,12 +68,12 @@ module _ {R Q S : Type 0} (means : Summing R Q) (keeps : Keeping S R) (t : Table
   -- an edit that was accepted
   pub edit_done : (from noted : Version) (b : Built) (nodes : List (Node Q)) (versions : List Version) (number : ℕ)
       → in_use t.versions t.count (asked_base asked) ≡ Some from → early_refusal t asked ≡ None → asked_level asked ≤ 15 → AskedSized asked
-      → t.count < length t.versions → t.count < 4096 → t.used ≤ node_limit t → b.used ≤ max t.used (capacity t.nodes) → length nodes ≡ length t.nodes → Grown t.nodes t.used nodes b.used
+      → t.count < length t.versions → t.count < 4096 → t.used ≤ node_limit t → b.used ≤ max t.used (capacity t.nodes) → length nodes ≡ length t.nodes → WritesFreeOnly t.nodes t.used nodes b.used
       → versions ≡ set t.versions t.count noted → noted.parent ≡ asked_base asked → noted.edit ≡ asked_kind asked → noted.place ≡ asked_place asked from
       → noted.level ≡ asked_level asked → noted.written ≡ b.used - t.used → noted.block ≡ number → RowPut means keeps store asked number after
       → EditLeft means keeps t store asked (Ok b) nodes versions after
-  edit_done from noted b nodes versions number q early flat sized low few fits within size grown is parent kind place level written block put =
-      let more = grown.more in
+  edit_done from noted b nodes versions number q early flat sized low few fits within size free_only is parent kind place level written block put =
+      let more = free_only.more in
       record {
         early = early;
         level = flat;
@@ -84,7 +84,7 @@ module _ {R Q S : Type 0} (means : Summing R Q) (keeps : Keeping S R) (t : Table
         growth = omega arith;
         within = omega arith;
         sized = size;
-        grown = grown;
+        free_only = free_only;
         noted = noted;
         recorded = is;
         says = record { from = from; based = q; parent = parent; kind_is = kind; place = place; level = level; written = written };
@@ -92,7 +92,7 @@ module _ {R Q S : Type 0} (means : Summing R Q) (keeps : Keeping S R) (t : Table
       }
 
   module _ (from : Version) (b : Built) (nodes : List (Node Q)) (versions : List Version) (low : t.count < length t.versions) (few : t.count < 4096) (fits : t.used ≤ node_limit t)
-      (within : b.used ≤ max t.used (capacity t.nodes)) (size : length nodes ≡ length t.nodes) (grown : Grown t.nodes t.used nodes b.used) where
+      (within : b.used ≤ max t.used (capacity t.nodes)) (size : length nodes ≡ length t.nodes) (free_only : WritesFreeOnly t.nodes t.used nodes b.used) where
     pub done_by : (early : Version → Option EditFault) → LookBy early (in_use t.versions t.count (asked_base asked)) (Ok from)
         → record_refusal (leb (version_limit t) t.count) asked (Some from) ≡ early from → (early from ≡ None → (asked_level asked ≤ 15) × AskedSized asked)
         → (noted : Version) (number : ℕ) → versions ≡ set t.versions t.count noted → noted.parent ≡ asked_base asked → noted.edit ≡ asked_kind asked → noted.place ≡ asked_place asked from
@@ -102,4 +102,4 @@ module _ {R Q S : Type 0} (means : Summing R Q) (keeps : Keeping S R) (t : Table
         let f = look_found early (in_use t.versions t.count (asked_base asked)) from look in
         let l = limits f.1 in
         let none = early_none early from look same in
-        edit_done from noted b nodes versions number f.0 none l.0 l.1 low few fits within size grown is parent kind place level written block put
+        edit_done from noted b nodes versions number f.0 none l.0 l.1 low few fits within size free_only is parent kind place level written block put

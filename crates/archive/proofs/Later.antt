@@ -3,9 +3,9 @@ use Rattle.std.proofs.Common.{◌≡◌, ℕ, zero, suc, ◌<◌, ◌≤◌, ◌
 use native.Mathlib.Decide.{dec_le}
 use Rattle.std.specs.List.{slice_get}
 use Rattle.std.proofs.lemmas.Bool.{cond-true, cond-false}
-use Rattle.history.specs.Edits.{Edit, lists, list_of, content_of}
-use Rattle.history.specs.Replay.{next_list}
-use Rattle.history.proofs.Sound.{histories_sound}
+use Rattle.flexlist.specs.Edits.{Edit, lists, list_of, content_of}
+use Rattle.flexlist.specs.Replay.{next_list}
+use Rattle.flexlist.proofs.Sound.{histories_sound}
 use Rattle.archive.specs.Records.{edit_of, edits_before, record_by, record_of}
 
 module _ {A : Type 0} where

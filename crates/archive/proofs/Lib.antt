@@ -4,6 +4,7 @@ pub mod Next
 pub mod Standing
 pub mod Planned
 pub mod Tried
+pub mod PathBounds
 pub mod Looks
 pub mod Edited
 pub mod Inserts

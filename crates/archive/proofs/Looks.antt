@@ -4,11 +4,11 @@ use borrow.Author.Tests.{lt-leb, eqb-false}
 use Rattle.std.specs.List.{slice_get}
 use Rattle.std.proofs.lemmas.Bool.{cond-true, cond-false}
 use Rattle.summary.specs.Summing.{Summing}
-use Rattle.flexlist.specs.Nodes.{nodes, nodes_of_both, to_place}
-use Rattle.laid.specs.Laid.{Laid, plain, root}
-use Rattle.history.specs.Edits.{Edit, Item, lists, list_of, content_of}
-use Rattle.history.specs.Replay.{path, two_paths}
-use Rattle.history.proofs.Sound.{version_sound, histories_sound}
+use Rattle.flexlist.specs.Nodes.{nodes, nodes_of_both, leaves, to_place}
+use Rattle.flexlist.specs.Laid.{Laid, plain, root}
+use Rattle.flexlist.specs.Edits.{Edit, Item, lists, list_of, content_of}
+use Rattle.flexlist.specs.Replay.{shape, path, two_paths}
+use Rattle.flexlist.proofs.Sound.{version_sound, histories_sound}
 use Rattle.questions.specs.Paths.{PathCounted, PathsCounted}
 use Rattle.archive.specs.declared.version.Version.{Version}
 use Rattle.archive.specs.declared.fault.EditFault.{EditFault}
@@ -18,6 +18,7 @@ use Rattle.archive.specs.Stands.{Tables, VersionStands, TablesStand, node_limit,
 use Rattle.archive.specs.Looking.{in_use, RefusedOr}
 use Rattle.archive.specs.Refusals.{first_of, early_fault, later_fault, full, free, insert_refusal, change_refusal, removal_refusal}
 use Rattle.archive.proofs.Later.{nth_front, same_some, some_none}
+use Rattle.archive.proofs.PathBounds.{path_short, paths_short}
 use Rattle.archive.proofs.Planned.{same_shape}
 use Rattle.archive.proofs.Standing.{counted, lead_empty, leaves_are}
 
@@ -119,9 +120,9 @@ module _ {R Q : Type 0} (means : Summing R Q) (s : Tables Q) (es : List (Edit R)
         let w = b.stands in
         let t = b.tree in
         let known = (version_sound es base).known in
-        let n = leaves_are es (list_of es base) t w.shaped known w.fair w.few in
-        let own = lead_empty es (list_of es base) t w.shaped known w.fair w.few in
-        p (content_of es) t place (record { holds = w.holds; here = sym b.told_of.root_is }) (counted es (list_of es base) t w.shaped known w.fair w.few) (omega arith, omega arith)
+        let n = leaves_are es (list_of es base) t w.shaped known w.in_limits w.few in
+        let own = lead_empty es (list_of es base) t w.shaped known w.in_limits w.few in
+        p (content_of es) t place (record { holds = w.holds; here = sym b.told_of.root_is }) (counted es (list_of es base) t w.shaped known w.in_limits w.few) (omega arith, omega arith)
         ∙ ap (λ x. Some (nodes (to_place x place))) (same_shape (list_of es base) (plain t) w.shaped)
 
     pub ways_are : (place : ℕ) (r : Option ℕ) → place < length (list_of es base) → PathsCounted means s.nodes from.root (suc place) r → r ≡ Some (two_paths (list_of es base) place)
@@ -131,10 +132,36 @@ module _ {R Q : Type 0} (means : Summing R Q) (s : Tables Q) (es : List (Edit R)
         let t = b.tree in
         let known = (version_sound es base).known in
         let few = w.few in
-        let n = leaves_are es (list_of es base) t w.shaped known w.fair w.few in
-        let own = lead_empty es (list_of es base) t w.shaped known w.fair w.few in
-        p (content_of es) t place (record { holds = w.holds; here = sym b.told_of.root_is }) (counted es (list_of es base) t w.shaped known w.fair w.few) (omega arith) (omega arith, omega arith)
+        let n = leaves_are es (list_of es base) t w.shaped known w.in_limits w.few in
+        let own = lead_empty es (list_of es base) t w.shaped known w.in_limits w.few in
+        p (content_of es) t place (record { holds = w.holds; here = sym b.told_of.root_is }) (counted es (list_of es base) t w.shaped known w.in_limits w.few) (omega arith) (omega arith, omega arith)
         ∙ ap (λ x. Some (nodes_of_both (to_place x place) (to_place x (suc place)))) (same_shape (list_of es base) (plain t) w.shaped)
+
+    -- A version has 500 blocks at most, so a path in it 501 nodes at most.
+    leaves_few : leaves (shape (list_of es base)) ≤ 501
+    leaves_few =
+        let w = b.stands in
+        let t = b.tree in
+        let few = w.few in
+        let n = leaves_are es (list_of es base) t w.shaped (version_sound es base).known w.in_limits w.few in
+        let same : leaves (plain t) ≡ leaves (shape (list_of es base)) = ap leaves (same_shape (list_of es base) (plain t) w.shaped) in
+        omega arith
+
+    pub path_few : (place : ℕ) → path (list_of es base) place ≤ 501
+    unfolding path
+    path_few place =
+        let few = leaves_few in
+        let short = path_short (to_place (shape (list_of es base)) place) in
+        omega arith
+
+    pub paths_few : (place : ℕ) → two_paths (list_of es base) place ≤ 1002
+    unfolding two_paths
+    paths_few place =
+        let few = leaves_few in
+        let both = paths_short (to_place (shape (list_of es base)) place) (to_place (shape (list_of es base)) (suc place)) in
+        let one = path_short (to_place (shape (list_of es base)) place) in
+        let other = path_short (to_place (shape (list_of es base)) (suc place)) in
+        omega arith
 
   -- The exits of a look past the place: what is tried early, by the tables and by the replay; and the free nodes.
   module _ (from : Version) (b : BaseFound from) (far : Bool) (near : far ≡ false) (level len : ℕ) (crowded here : Bool) (same : crowded ≡ here) (due : ℕ) where
@@ -155,27 +182,33 @@ module _ {R Q : Type 0} (means : Summing R Q) (s : Tables Q) (es : List (Edit R)
     exit_early f e =
         looked_later far _ (slice_get s.versions base) f b.low near (ap (λ o. first_of o (cond (ltb (free s es) due) (Some fault.Nodes) None)) (sym early_same ∙ e))
 
-    module _ (none : early_fault level len crowded (leb (version_limit s) s.count) ≡ None) (need : ℕ) (is : need ≡ due) where
+    module _ (none : early_fault level len crowded (leb (version_limit s) s.count) ≡ None) where
       few_only : later_fault level len here (full s es) (free s es) due ≡ cond (ltb (free s es) due) (Some fault.Nodes) None
       unfolding early
       few_only = ap (λ o. first_of o (cond (ltb (free s es) due) (Some fault.Nodes) None)) (sym early_same ∙ none)
 
-      pub exit_few : leb (s.used + need) (node_limit s) ≡ false
-          → RefusedOr (refusal_by far (later_fault level len here (full s es) (free s es) due)) (slice_get s.versions base) (Err fault.Nodes)
-      exit_few l =
-          let low = leb-false (s.used + need) (node_limit s) l in
-          let u = st.used_up in
-          let fits = st.nodes_fit in
-          let t = lt-ltb (free s es) due (omega arith) in
-          looked_later far _ (slice_get s.versions base) fault.Nodes b.low near (few_only ∙ cond-true (ltb (free s es) due) (Some fault.Nodes) None t)
-
-      pub exit_fine : leb (s.used + need) (node_limit s) ≡ true
+      -- so many nodes are free as it may need, or more
+      pub exit_ample : (room : ℕ) → due ≤ room → leb (s.used + room) (node_limit s) ≡ true
           → RefusedOr (refusal_by far (later_fault level len here (full s es) (free s es) due)) (slice_get s.versions base) (Ok from)
-      exit_fine l =
-          let low = leb-true (s.used + need) (node_limit s) l in
+      exit_ample room enough l =
+          let low = leb-true (s.used + room) (node_limit s) l in
           let u = st.used_up in
           let t = le-ltb (free s es) due (omega arith) in
           looked_fine far _ from b near (few_only ∙ cond-false (ltb (free s es) due) (Some fault.Nodes) None t)
+
+      module _ (need : ℕ) (is : need ≡ due) where
+        pub exit_few : leb (s.used + need) (node_limit s) ≡ false
+            → RefusedOr (refusal_by far (later_fault level len here (full s es) (free s es) due)) (slice_get s.versions base) (Err fault.Nodes)
+        exit_few l =
+            let low = leb-false (s.used + need) (node_limit s) l in
+            let u = st.used_up in
+            let fits = st.nodes_fit in
+            let t = lt-ltb (free s es) due (omega arith) in
+            looked_later far _ (slice_get s.versions base) fault.Nodes b.low near (few_only ∙ cond-true (ltb (free s es) due) (Some fault.Nodes) None t)
+
+        pub exit_fine : leb (s.used + need) (node_limit s) ≡ true
+            → RefusedOr (refusal_by far (later_fault level len here (full s es) (free s es) due)) (slice_get s.versions base) (Ok from)
+        exit_fine = exit_ample need (omega arith)
 
   -- ---- of an insert
 
@@ -202,6 +235,12 @@ module _ {R Q : Type 0} (means : Summing R Q) (s : Tables Q) (es : List (Edit R)
     pub insert_stopped : (f : EditFault) → early_fault level len (leb 500 from.blocks) (leb (version_limit s) s.count) ≡ Some f
         → RefusedOr (insert_refusal s es base place level len) (slice_get s.versions base) (Err f)
     insert_stopped = exit_early from (found from q) _ in_place level len _ _ crowd (path (list_of es base) place + 2)
+
+    pub insert_ample : early_fault level len (leb 500 from.blocks) (leb (version_limit s) s.count) ≡ None → leb (s.used + 503) (node_limit s) ≡ true
+        → RefusedOr (insert_refusal s es base place level len) (slice_get s.versions base) (Ok from)
+    insert_ample none =
+        let short = path_few from (found from q) place in
+        exit_ample from (found from q) _ in_place level len _ _ crowd (path (list_of es base) place + 2) none 503 (omega arith)
 
     module _ (none : early_fault level len (leb 500 from.blocks) (leb (version_limit s) s.count) ≡ None) (way : ℕ) (p : PathCounted means s.nodes from.root place (Some way)) where
       due : way + 2 ≡ path (list_of es base) place + 2
@@ -244,6 +283,17 @@ module _ {R Q : Type 0} (means : Summing R Q) (s : Tables Q) (es : List (Edit R)
 
       pub removal_stopped : (f : EditFault) → early_fault 0 1 false (leb (version_limit s) s.count) ≡ Some f → RefusedOr (removal_refusal s es base place) (slice_get s.versions base) (Err f)
       removal_stopped = exit_early from (found from q) _ there 0 1 false false refl (two_paths (list_of es base) place - 1)
+
+      pub change_ample : (len : ℕ) → early_fault 0 len false (leb (version_limit s) s.count) ≡ None → leb (s.used + 501) (node_limit s) ≡ true
+          → RefusedOr (change_refusal s es base place len) (slice_get s.versions base) (Ok from)
+      change_ample len none =
+          exit_ample from (found from q) _ there 0 len false false refl (path (list_of es base) (suc place)) none 501 (path_few from (found from q) (suc place))
+
+      pub removal_ample : early_fault 0 1 false (leb (version_limit s) s.count) ≡ None → leb (s.used + 1001) (node_limit s) ≡ true
+          → RefusedOr (removal_refusal s es base place) (slice_get s.versions base) (Ok from)
+      removal_ample none =
+          let short = paths_few from (found from q) place in
+          exit_ample from (found from q) _ there 0 1 false false refl (two_paths (list_of es base) place - 1) none 1001 (omega arith)
 
       module _ (len : ℕ) (none : early_fault 0 len false (leb (version_limit s) s.count) ≡ None) (way : ℕ) (p : PathCounted means s.nodes from.root (suc place) (Some way)) where
         way_due : way ≡ path (list_of es base) (suc place)

@@ -4,9 +4,9 @@ use Rattle.std.specs.List.{slice_get}
 use Rattle.summary.specs.Summing.{Summing}
 use Rattle.flexlist.specs.Nodes.{identities, Among}
 use Rattle.flexlist.proofs.Lists.{among_left, among_right}
-use Rattle.laid.specs.Laid.{Laid, last, leaf, fork, plain, root}
-use Rattle.laid.specs.Shared.{Spot, spots}
-use Rattle.history.specs.Edits.{Content}
+use Rattle.flexlist.specs.Laid.{Laid, last, leaf, fork, plain, root}
+use Rattle.flexlist.specs.Shared.{PlacedNode, placed_nodes}
+use Rattle.flexlist.specs.Edits.{Content}
 use Rattle.nodes.specs.declared.node.Node.{Node}
 use Rattle.nodes.specs.Holding.{node_of, Holds, leaf_node, fork_node}
 
@@ -26,7 +26,7 @@ module _ {R Q : Type 0} (s : Summing R Q) (c d : ℕ → Content R) where
 
   -- the entries of a tree stay
   abbrev pub Stay : List (Node Q) → List (Node Q) → Laid → Type 0
-  Stay before after t = (x : Spot) → Among x (spots t) → slice_get after x.entry ≡ slice_get before x.entry
+  Stay before after t = (x : PlacedNode) → Among x (placed_nodes t) → slice_get after x.entry ≡ slice_get before x.entry
 
   pub holds_moved : (before after : List (Node Q)) (t : Laid) → Agree t → Stay before after t → Holds s c before t → Holds s d after t
   holds_moved before after (last e a) h k p = k _ (inl refl) ∙ p ∙ ap Some (sym (node_agree (last e a) h))
@@ -36,6 +36,6 @@ module _ {R Q : Type 0} (s : Summing R Q) (c d : ℕ → Content R) where
     k _ (inl refl) ∙ p.0 ∙ ap Some (sym (node_agree (fork e m x y) h)),
     p.1,
     p.2,
-    holds_moved before after x (λ i q. h i (among_left i (identities (plain x)) (identities (plain y)) q)) (λ z q. k z (inr (among_left z (spots x) (spots y) q))) p.3,
-    holds_moved before after y (λ i q. h i (among_right i (identities (plain x)) (identities (plain y)) q)) (λ z q. k z (inr (among_right z (spots x) (spots y) q))) p.4,
+    holds_moved before after x (λ i q. h i (among_left i (identities (plain x)) (identities (plain y)) q)) (λ z q. k z (inr (among_left z (placed_nodes x) (placed_nodes y) q))) p.3,
+    holds_moved before after y (λ i q. h i (among_right i (identities (plain x)) (identities (plain y)) q)) (λ z q. k z (inr (among_right z (placed_nodes x) (placed_nodes y) q))) p.4,
   )

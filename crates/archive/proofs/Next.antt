@@ -6,14 +6,14 @@ use Rattle.summary.specs.Summing.{Summing}
 use Rattle.flexlist.specs.Shape.{FlexList}
 use Rattle.flexlist.specs.Nodes.{identities, Among}
 use Rattle.flexlist.proofs.Shape.{flex_identities}
-use Rattle.laid.specs.Laid.{Laid, plain, root}
-use Rattle.laid.specs.Shared.{Shared}
-use Rattle.history.specs.Edits.{Item, Edit, Known, base_of, list_of, blocks_of, content_of, identities_of}
-use Rattle.history.specs.Replay.{node_count, written_by}
-use Rattle.history.proofs.Sound.{version_sound}
-use Rattle.history.proofs.Bounds.{ids_blocks}
+use Rattle.flexlist.specs.Laid.{Laid, plain, root}
+use Rattle.flexlist.specs.Shared.{Shared}
+use Rattle.flexlist.specs.Edits.{Item, Edit, Known, base_of, list_of, blocks_of, content_of, identities_of}
+use Rattle.flexlist.specs.Replay.{node_count, written_by}
+use Rattle.flexlist.proofs.Sound.{version_sound}
+use Rattle.flexlist.proofs.EditBounds.{ids_blocks}
 use Rattle.archive.specs.Records.{edit_of, edits_before}
-use Rattle.archive.specs.Stands.{Tables, Fair, VersionStands, TablesStand}
+use Rattle.archive.specs.Stands.{Tables, WithinLimits, VersionStands, TablesStand}
 use Rattle.archive.specs.Steps.{MadeNext, StepsStand}
 use Rattle.archive.proofs.Later.{older_or_new, nth_front, nth_end, same_some, list_later, list_new, content_later, edit_later, before_later, edit_new, before_new, edit_past, record_later, record_new}
 use Rattle.archive.proofs.Moved.{Agree, holds_moved}
@@ -39,14 +39,14 @@ module _ {R Q : Type 0} (means : Summing R Q) where
         let same = list_later e es v h in
         let n = st.counted in
         let low : v < s.count = omega arith in
-        let more = m.grown.more in
+        let more = m.free_only.more in
         record {
           shaped = subst (λ l. FlexList 0 (blocks_of l) (plain o)) (sym same) w.shaped;
-          holds = holds_moved means (content_of es) (content_of (e ∷ es)) s.nodes next.nodes o (agree_later e es v o w.shaped) (λ x k. m.grown.kept x.entry (w.under x k)) w.holds;
+          holds = holds_moved means (content_of es) (content_of (e ∷ es)) s.nodes next.nodes o (agree_later e es v o w.shaped) (λ x k. m.free_only.kept x.entry (w.under x k)) w.holds;
           own = w.own;
           under = λ x k. let u = w.under x k in omega arith;
           recorded = m.versions_kept v low ∙ w.recorded ∙ ap Some (sym (record_later e es v (root o) h));
-          fair = subst (AllByRecursion Fair) (sym same) w.fair;
+          in_limits = subst (AllByRecursion WithinLimits) (sym same) w.in_limits;
           few = subst (λ l. length l ≤ 500) (sym same) w.few;
         }
 
@@ -60,7 +60,7 @@ module _ {R Q : Type 0} (means : Summing R Q) where
           own = m.shared.own;
           under = λ x k. let h = m.shared.high x k in omega arith;
           recorded = ap (slice_get next.versions) (sym st.counted) ∙ m.version_new ∙ ap Some (sym (record_new e es (root t)));
-          fair = subst (AllByRecursion Fair) (sym new) m.fair;
+          in_limits = subst (AllByRecursion WithinLimits) (sym new) m.in_limits;
           few = subst (λ l. length l ≤ 500) (sym new) m.few;
         }
 

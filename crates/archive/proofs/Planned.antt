@@ -8,21 +8,21 @@ use Rattle.flexlist.specs.Sharing.{written}
 use Rattle.flexlist.specs.Building.{Plan, made, built, New, EachMade, Builds, insert as insert_plan, change as change_plan, remove as remove_plan, Gap, to_this}
 use Rattle.flexlist.proofs.Exact.{insert_builds, change_builds, removal_builds}
 use Rattle.flexlist.proofs.Shape.{exactly_one}
-use Rattle.laid.specs.Laid.{Laid, plain, plain_plan, lay}
-use Rattle.laid.specs.Shared.{OwnEntries, Under, Shared, KeepsSpots}
-use Rattle.laid.proofs.Spots.{plain_lay}
-use Rattle.laid.proofs.Laying.{laying_shares}
-use Rattle.history.specs.Edits.{Content, Item, Edit, Known, insert, change, removal, base_of, first_changed, list_of, blocks_of, identities_of}
-use Rattle.history.specs.Replay.{shape, written_by, next_list}
-use Rattle.history.proofs.Sound.{version_sound, fresh}
-use Rattle.history.proofs.Bounds.{shape_is, front_length, first_of}
+use Rattle.flexlist.specs.Laid.{Laid, plain, plain_plan, lay}
+use Rattle.flexlist.specs.Shared.{OwnEntries, Under, Shared, KeepsPlacedNodes}
+use Rattle.flexlist.proofs.PlacedNodes.{plain_lay}
+use Rattle.flexlist.proofs.Laying.{laying_shares}
+use Rattle.flexlist.specs.Edits.{Content, Item, Edit, Known, insert, change, removal, base_of, first_changed, list_of, blocks_of, identities_of}
+use Rattle.flexlist.specs.Replay.{shape, written_by, next_list}
+use Rattle.flexlist.proofs.Sound.{version_sound, fresh}
+use Rattle.flexlist.proofs.EditBounds.{shape_is, front_length, first_of}
 use Rattle.archive.proofs.Standing.{tree_ids}
 
 module _ {R : Type 0} where
   -- a plan over a base's laid tree that gives the version of an edit, keeps the base's nodes at their entries, and makes only what the base lacks
   pub record PlanFor (es : List (Edit R)) (e : Edit R) (b : Laid) (plan : Plan Laid) : Type 0 where
     pub gives : FlexList 0 (blocks_of (next_list es e)) (built (plain_plan plan))
-    pub keeps : KeepsSpots b plan
+    pub keeps : KeepsPlacedNodes b plan
     pub makes : EachMade (New (stretches (plain b))) (plain_plan plan)
 
   -- two FlexLists of one list are one tree
@@ -61,7 +61,7 @@ module _ {R : Type 0} where
   blocks_append : (xs as' bs : List (Item R)) → xs ≡ as' ++ bs → blocks_of xs ≡ blocks_of as' ++ blocks_of bs
   blocks_append xs as' bs e = ap blocks_of e ∙ map-append (λ x. block x.identity x.level) as' bs
 
-  module _ (es : List (Edit R)) (base place : ℕ) (b : Laid) (plan : Plan Laid) (f : FlexList 0 (blocks_of (list_of es base)) (plain b)) (keeps : KeepsSpots b plan) where
+  module _ (es : List (Edit R)) (base place : ℕ) (b : Laid) (plan : Plan Laid) (f : FlexList 0 (blocks_of (list_of es base)) (plain b)) (keeps : KeepsPlacedNodes b plan) where
     xs : List (Item R)
     xs = list_of es base
 

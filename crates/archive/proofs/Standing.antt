@@ -8,15 +8,15 @@ use Rattle.flexlist.specs.Shape.{FlexList, Tree}
 use Rattle.flexlist.specs.Nodes.{identities, leaves, Among}
 use Rattle.flexlist.proofs.Shape.{flex_identities, lead, tail_of, lead_tail}
 use Rattle.flexlist.proofs.Places.{long_enough}
-use Rattle.laid.specs.Laid.{Laid, last, leaf, fork, plain, root, leader}
-use Rattle.laid.specs.Shared.{Spot, spots, Under}
-use Rattle.history.specs.Edits.{Content, lead as lead_content, Item, Edit, Known, blocks_of, content_of, identities_of}
-use Rattle.history.proofs.Bounds.{ids_blocks}
+use Rattle.flexlist.specs.Laid.{Laid, last, leaf, fork, plain, root, leader}
+use Rattle.flexlist.specs.Shared.{PlacedNode, placed_nodes, Under}
+use Rattle.flexlist.specs.Edits.{Content, lead as lead_content, Item, Edit, Known, blocks_of, content_of, identities_of}
+use Rattle.flexlist.proofs.EditBounds.{ids_blocks}
 use Rattle.nodes.specs.declared.node.Node.{Node}
 use Rattle.nodes.specs.Holding.{Holds, BlocksAfter, Counted, own_blocks}
 use Rattle.nodes.specs.Walking.{Ready}
 use Rattle.questions.specs.Storing.{Stored, AllStored}
-use Rattle.archive.specs.Stands.{Fair, RowsStand}
+use Rattle.archive.specs.Stands.{WithinLimits, RowsStand}
 
 module _ {R : Type 0} where
   pub content_lead : (es : List (Edit R)) → content_of es 0 ≡ lead_content
@@ -79,13 +79,13 @@ leader_lead (last e a) = refl
 leader_lead (leaf e a t) = refl
 leader_lead (fork e m x y) = leader_lead x
 
-pub root_spot : (t : Laid) → (x : Spot) × Among x (spots t) × (x.entry ≡ root t)
+pub root_spot : (t : Laid) → (x : PlacedNode) × Among x (placed_nodes t) × (x.entry ≡ root t)
 root_spot (last e a) = (record { stretch = a ∷ []; entry = e }, inl refl, refl)
 root_spot (leaf e a t) = (record { stretch = a ∷ identities (plain t); entry = e }, inl refl, refl)
 root_spot (fork e m x y) = (record { stretch = identities (plain x) ++ identities (plain y); entry = e }, inl refl, refl)
 
 -- a list of known blocks within the limits, and its laid tree
-module _ {R : Type 0} (es : List (Edit R)) (xs : List (Item R)) (t : Laid) (shaped : FlexList 0 (blocks_of xs) (plain t)) (known : AllByRecursion (Known es) xs) (fair : AllByRecursion Fair xs) (many : length xs ≤ 500) where
+module _ {R : Type 0} (es : List (Edit R)) (xs : List (Item R)) (t : Laid) (shaped : FlexList 0 (blocks_of xs) (plain t)) (known : AllByRecursion (Known es) xs) (in_limits : AllByRecursion WithinLimits xs) (many : length xs ≤ 500) where
   ids : identities (plain t) ≡ 0 ∷ identities_of xs
   ids = tree_ids xs (plain t) shaped
 
@@ -103,7 +103,7 @@ module _ {R : Type 0} (es : List (Edit R)) (xs : List (Item R)) (t : Laid) (shap
   pub leaves_are : leaves (plain t) ≡ suc (length xs)
   leaves_are = long_enough shaped ∙ ap suc (length-map xs _)
 
-  fair_solid : (ys : List (Item R)) → AllByRecursion Fair ys → AllByRecursion (λ x. 1 ≤ length x.content.row) ys
+  fair_solid : (ys : List (Item R)) → AllByRecursion WithinLimits ys → AllByRecursion (λ x. 1 ≤ length x.content.row) ys
   fair_solid [] h = tt
   fair_solid (y ∷ ys) h = (h.0.some, fair_solid ys h.1)
 
@@ -113,7 +113,7 @@ module _ {R : Type 0} (es : List (Edit R)) (xs : List (Item R)) (t : Laid) (shap
       let n = leaves_are in
       record {
         solid = rest_solid [] (content_of es) t (subst (AllByRecursion (λ i. 1 ≤ length (content_of es i).row)) (sym rest_is)
-            (known_all es (λ k. 1 ≤ length k.row) xs known (fair_solid xs fair)));
+            (known_all es (λ k. 1 ≤ length k.row) xs known (fair_solid xs in_limits)));
         few = omega arith;
       }
 

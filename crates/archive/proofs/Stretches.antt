@@ -2,7 +2,7 @@
 use Rattle.std.proofs.Common.{ap₂, ◌&&◌, leb, le-leb, ◌≡◌, ℕ, ◌-◌, ◌<◌, ◌≤◌, Bool, true, false, cond, ltb, List, ◌++◌, length, take, drop, Some, None, Ok, Err, Option, sym, ap, ◌∙◌, append-nil, arith, drop_of_length-le, ltb-false, le-ltb, lt-ltb}
 use Rattle.std.proofs.lemmas.Bool.{cond-true, cond-false, or_parts}
 use Rattle.summary.specs.Summing.{Summing, summary_of}
-use Rattle.history.specs.Edits.{Edit, list_of, content_of}
+use Rattle.flexlist.specs.Edits.{Edit, list_of, content_of}
 use Rattle.questions.specs.Readings.{readings_of}
 use Rattle.questions.specs.Spans.{Spanned}
 use Rattle.questions.specs.Sums.{Summed}

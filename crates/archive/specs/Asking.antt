@@ -2,8 +2,8 @@
 use Rattle.std.specs.Prelude.{◌≡◌, ℕ, suc, ◌-◌, ◌≤◌, Bool, cond, ◌||◌, List, ◌++◌, map, length, take, drop, Some, None, Ok, Err, IsOk, Option, Result, nat_le, nat_lt}
 use Rattle.std.specs.List.{slice_get}
 use Rattle.summary.specs.Summing.{Summing, summary_of}
-use Rattle.history.specs.Edits.{Item, Edit, list_of}
-use Rattle.history.specs.Replay.{path}
+use Rattle.flexlist.specs.Edits.{Item, Edit, list_of}
+use Rattle.flexlist.specs.Replay.{path}
 use Rattle.nodes.specs.declared.node.Node.{Node}
 use Rattle.questions.specs.declared.found.Answer.{Answer}
 use Rattle.questions.specs.Readings.{in_order, row_with}

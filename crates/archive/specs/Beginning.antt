@@ -1,7 +1,7 @@
 -- What begin writes. Assumes nothing.
 use Rattle.std.specs.Prelude.{◌≡◌, ◌||◌, List, [], length, None, MatchBool, ◌==◌, slice_set}
 use Rattle.summary.specs.Summing.{Summing}
-use Rattle.history.specs.Edits.{lead}
+use Rattle.flexlist.specs.Edits.{lead}
 use Rattle.nodes.specs.declared.node.Node.{Node}
 use Rattle.nodes.specs.Holding.{leaf_node}
 use Rattle.archive.specs.declared.version.Version.{Version}

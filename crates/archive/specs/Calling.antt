@@ -5,12 +5,12 @@ use Rattle.std.specs.List.{slice_get}
 use Rattle.summary.specs.Summing.{Summing}
 use Rattle.store.specs.declared.cause.Cause.{Cause}
 use Rattle.store.specs.Interface.{OneCause}
-use Rattle.history.specs.Edits.{Edit, list_of}
-use Rattle.history.specs.Edits as edits
-use Rattle.history.specs.Replay.{written_by, InPlace, WithinBound}
-use Rattle.history.specs.Chains.{chain_of, replayed}
-use Rattle.laid.specs.Laid.{Laid, Part}
-use Rattle.nodes.specs.Holding.{Grown}
+use Rattle.flexlist.specs.Edits.{Edit, list_of}
+use Rattle.flexlist.specs.Edits as edits
+use Rattle.flexlist.specs.Replay.{written_by, InPlace, WithinBound}
+use Rattle.flexlist.specs.Chains.{chain_of, replayed}
+use Rattle.flexlist.specs.Laid.{Laid, Part}
+use Rattle.nodes.specs.Holding.{WritesFreeOnly}
 use Rattle.questions.specs.declared.found.Answer.{Answer}
 use Rattle.archive.specs.declared.version.Version.{Version}
 use Rattle.archive.specs.declared.version.Kind.{Kind}
@@ -156,7 +156,7 @@ module _ {R Q S : Type 0} (means : Summing R Q) (keeps : Keeping S R) where
     pub growth : t.tables.used ≡ s.tables.used + x.written
     pub within : t.tables.used ≤ node_limit s.tables
     pub sized : length t.tables.nodes ≡ length s.tables.nodes
-    pub grown : Grown s.tables.nodes s.tables.used t.tables.nodes t.tables.used
+    pub free_only : WritesFreeOnly s.tables.nodes s.tables.used t.tables.nodes t.tables.used
     pub noted : Version
     pub recorded : t.tables.versions ≡ slice_set s.tables.versions s.tables.count noted
     pub says : Recorded s asked x noted

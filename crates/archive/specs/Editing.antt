@@ -4,8 +4,8 @@ use Rattle.std.specs.Prelude.{◌≡◌, ℕ, ◌+◌, ◌-◌, List, ◌∷◌,
 use Rattle.summary.specs.Summing.{Summing}
 use Rattle.store.specs.declared.cause.Cause.{Cause}
 use Rattle.store.specs.Interface.{OneCause}
-use Rattle.history.specs.Edits.{Content, Edit, insert, change, removal}
-use Rattle.history.specs.Replay.{written_by}
+use Rattle.flexlist.specs.Edits.{Content, Edit, insert, change, removal}
+use Rattle.flexlist.specs.Replay.{written_by}
 use Rattle.nodes.specs.declared.node.Node.{Node}
 use Rattle.nodes.specs.declared.walks.Built.{Built}
 use Rattle.archive.specs.declared.version.Version.{Version}

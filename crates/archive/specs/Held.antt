@@ -3,8 +3,8 @@ use Rattle.std.specs.Prelude.{◌≡◌, ℕ, ◌+◌, List, length, Some}
 use Rattle.std.specs.List.{slice_get}
 use Rattle.summary.specs.Summing.{Summing, summary_of}
 use Rattle.flexlist.specs.Nodes.{leaves}
-use Rattle.laid.specs.Laid.{Laid, plain, root, leader, Part}
-use Rattle.history.specs.Edits.{Edit, content_of}
+use Rattle.flexlist.specs.Laid.{Laid, plain, root, leader, Part}
+use Rattle.flexlist.specs.Edits.{Edit, content_of}
 use Rattle.nodes.specs.declared.node.Node.{Node}
 use Rattle.nodes.specs.Holding.{own_blocks}
 use Rattle.questions.specs.Readings.{readings_of}

@@ -2,7 +2,7 @@
 use Rattle.std.specs.Prelude.{◌≡◌, ◌⊎◌, ℕ, cond, List, Some, None, Ok, Err, Option, Result, nat_le}
 use Rattle.std.specs.List.{slice_get}
 use Rattle.summary.specs.Summing.{Summing}
-use Rattle.history.specs.Edits.{Edit}
+use Rattle.flexlist.specs.Edits.{Edit}
 use Rattle.archive.specs.declared.version.Version.{Version}
 use Rattle.archive.specs.declared.fault.EditFault.{EditFault}
 use Rattle.archive.specs.declared.fault.EditFault.TheVariants as fault

@@ -1,8 +1,8 @@
 -- What is recorded of a version, by the history that gave it. Assumes nothing.
 use Rattle.std.specs.Prelude.{ℕ, suc, ◌+◌, cond, List, [], ◌∷◌, length, Some, None, Option, ◌==◌}
 use Rattle.std.specs.List.{slice_get}
-use Rattle.history.specs.Edits.{Item, Edit, insert, change, removal, base_of, place_of, brought, list_of}
-use Rattle.history.specs.Replay.{written_by}
+use Rattle.flexlist.specs.Edits.{Item, Edit, insert, change, removal, base_of, place_of, brought, list_of}
+use Rattle.flexlist.specs.Replay.{written_by}
 use Rattle.archive.specs.declared.version.Kind.{Kind}
 use Rattle.archive.specs.declared.version.Kind.TheVariants.{Begun, Insert, Change, Removal}
 use Rattle.archive.specs.declared.version.Version.{Version}

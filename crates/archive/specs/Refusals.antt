@@ -1,8 +1,8 @@
 -- When a call is refused, and with what number. Assumes nothing.
 use Rattle.std.specs.Prelude.{ℕ, suc, ◌+◌, ◌-◌, Bool, cond, ◌||◌, List, length, Some, None, Option, nat_le, nat_lt}
 use Rattle.store.specs.Causes.{cause_number}
-use Rattle.history.specs.Edits.{Edit, list_of}
-use Rattle.history.specs.Replay.{path, two_paths, node_count}
+use Rattle.flexlist.specs.Edits.{Edit, list_of}
+use Rattle.flexlist.specs.Replay.{path, two_paths, node_count}
 use Rattle.archive.specs.declared.version.Version.{Version}
 use Rattle.archive.specs.declared.fault.EditFault.{EditFault}
 use Rattle.archive.specs.declared.fault.EditFault.TheVariants as fault

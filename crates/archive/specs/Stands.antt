@@ -3,10 +3,10 @@ use Rattle.std.specs.Prelude.{◌≡◌, ℕ, suc, ◌+◌, ◌<◌, ◌≤◌, 
 use Rattle.std.specs.List.{slice_get, AllByRecursion}
 use Rattle.summary.specs.Summing.{Summing}
 use Rattle.flexlist.specs.Shape.{FlexList}
-use Rattle.laid.specs.Laid.{Laid, plain, root}
-use Rattle.laid.specs.Shared.{OwnEntries, Under, Shared}
-use Rattle.history.specs.Edits.{Item, Edit, base_of, list_of, blocks_of, content_of}
-use Rattle.history.specs.Replay.{node_count, written_by}
+use Rattle.flexlist.specs.Laid.{Laid, plain, root}
+use Rattle.flexlist.specs.Shared.{OwnEntries, Under, Shared}
+use Rattle.flexlist.specs.Edits.{Item, Edit, base_of, list_of, blocks_of, content_of}
+use Rattle.flexlist.specs.Replay.{node_count, written_by}
 use Rattle.nodes.specs.declared.node.Node.{Node}
 use Rattle.nodes.specs.Holding.{Holds}
 use Rattle.archive.specs.declared.version.Version.{Version}
@@ -30,7 +30,7 @@ abbrev pub version_limit : {Q : Type 0} → Tables Q → ℕ
 version_limit s = min 4096 (length s.versions)
 
 -- a block within the limits: its level, and the length of its row
-pub record Fair {R : Type 0} (x : Item R) : Type 0 where
+pub record WithinLimits {R : Type 0} (x : Item R) : Type 0 where
   pub level : x.level ≤ 15
   pub some : 1 ≤ length x.content.row
   pub most : length x.content.row ≤ 1024
@@ -44,7 +44,7 @@ module _ {R Q : Type 0} (means : Summing R Q) where
     pub own : OwnEntries t
     pub under : Under s.used t
     pub recorded : slice_get s.versions v ≡ Some (record_of es v (root t))
-    pub fair : AllByRecursion Fair (list_of es v)
+    pub in_limits : AllByRecursion WithinLimits (list_of es v)
     pub few : length (list_of es v) ≤ 500
 
   -- The tables stand for these edits, the newest first.

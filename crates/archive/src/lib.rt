@@ -1,9 +1,8 @@
-// The trace archive: what its tables stand for, its refusals, and its calls: begin, the edits and the questions.
+//! The trace archive: what its tables stand for, its refusals, and its calls: begin, the edits and the questions.
 #![tactic(auto)]
 
 mod ask;
 mod begin;
-mod begins;
 mod block;
 mod change;
 mod fault;

@@ -11,7 +11,10 @@ use nodes::{CAPACITY, Node};
 use questions::{path, paths};
 use summary::Summary;
 
-// The most versions that an archive uses of its table; of the nodes it uses at most `CAPACITY`.
+// The most nodes that a path has: a version of 500 blocks has a FlexList of 501 leaves, and no path is longer.
+const PATH: u64 = 501;
+
+/// The most versions that an archive uses of its table; of the nodes it uses at most `CAPACITY`.
 pub const VERSIONS: usize = 4_096;
 
 // The record of a version in use. Versions and their count stay two parameters, like the nodes and theirs: the table hands its slices to functions, by
@@ -59,6 +62,7 @@ pub(crate) fn is_full(len: usize, count: u32) -> bool
     len.min(VERSIONS) <= count as usize
 }
 
+// A path is counted where fewer nodes are free than the longest may need: mostly that is known without.
 // Three looks and not one: each has its own order of places and paths, and an edit without a level or a row has none to try.
 pub(crate) fn look_insert<Q: Summary>(
     nodes: &[Node<Q>],
@@ -84,6 +88,10 @@ pub(crate) fn look_insert<Q: Summary>(
     }
     let crowded = from.blocks >= 500;
     early_fault(level, len, crowded, is_full(versions.len(), count))?;
+    let ample = has_free(nodes.len(), used, PATH + 2);
+    if ample {
+        return Ok(from);
+    }
     let way = path(nodes, from.root, place).ok_or(EditFault::Version)?;
     if !has_free(nodes.len(), used, u64::from(way) + 2) {
         return Err(EditFault::Nodes);
@@ -114,6 +122,10 @@ pub(crate) fn look_change<Q: Summary>(
         return Err(EditFault::Place);
     }
     early_fault(0, len, false, is_full(versions.len(), count))?;
+    let ample = has_free(nodes.len(), used, PATH);
+    if ample {
+        return Ok(from);
+    }
     let way = path(nodes, from.root, place + 1).ok_or(EditFault::Version)?;
     if !has_free(nodes.len(), used, u64::from(way)) {
         return Err(EditFault::Nodes);
@@ -142,6 +154,10 @@ pub(crate) fn look_removal<Q: Summary>(
         return Err(EditFault::Place);
     }
     early_fault(0, 1, false, is_full(versions.len(), count))?;
+    let ample = has_free(nodes.len(), used, 2 * PATH - 1);
+    if ample {
+        return Ok(from);
+    }
     let ways = paths(nodes, from.root, place + 1).ok_or(EditFault::Version)?;
     if !has_free(nodes.len(), used, u64::from(ways).saturating_sub(1)) {
         return Err(EditFault::Nodes);

@@ -5,6 +5,7 @@ ghost use Rattle.archive.specs.Refusals.{edit_number, inner_cause, read_number};
 use crate::fault::{EditFault, ReadFault};
 
 impl EditFault {
+    /// The number of an edit's refusal, 1 to 8.
     pub fn number(&self) -> u32
         ensures { result ≡ edit_number self.now }
     {
@@ -20,7 +21,7 @@ impl EditFault {
         }
     }
 
-    // The number of the store's cause, 0 where the store did not refuse. No option: by the project's rule a report prints 0 for none.
+    /// The number of the store's cause, 0 where the store did not refuse. No option: by the project's rule a report prints 0 for none.
     pub fn cause(&self) -> u32
         ensures { result ≡ inner_cause self.now }
     {
@@ -32,6 +33,7 @@ impl EditFault {
 }
 
 impl ReadFault {
+    /// The number of a question's refusal: 1, 2 or 9.
     pub fn number(&self) -> u32
         ensures { result ≡ read_number self.now }
     {

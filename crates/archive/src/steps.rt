@@ -4,14 +4,14 @@ ghost use Rattle.archive.specs.Steps.{StepsStand};
 
 use summary::Summary;
 
-// For every lawful summary: tables that stand for some edits, and of which one accepted edit more made what it owes, stand for these edits and
-// that one.
+/// For every lawful summary: tables that stand for some edits, and of which one accepted edit more made what it owes, stand for these edits and
+/// that one.
 pub fn steps_stand<Q: Summary>()
     ensures { StepsStand Q.Summary.means }
 {}
 
-// For every lawful summary: in tables that stand for some edits, every node of every version keeps the summary of the readings under it, how many they
-// are, and how many blocks.
+/// For every lawful summary: in tables that stand for some edits, every node of every version keeps the summary of the readings under it, how many they
+/// are, and how many blocks.
 pub fn nodes_hold<Q: Summary>()
     ensures { NodesHold Q.Summary.means }
 {}

@@ -7,16 +7,16 @@ mod asks;
 mod calls;
 mod edits;
 
-// What an accepted edit answers: under which number its version goes, and how many nodes it wrote.
+/// What an accepted edit answers: under which number its version goes, and how many nodes it wrote.
 #[derive(Clone, Copy, PartialEq, Eq, Debug)]
 pub struct Accepted {
     pub version: u32,
     pub written: u32,
 }
 
-// The caller's nodes, how many of them are in use, and how many versions there are. A slice and how much of it is used, and no vector: the caller's memory
-// is the project's rule, and there is no heap.
-// That a call keeps the reference to them stands as a clause `lender` at each call: an invariant of the type speaks of one value, and not of two.
+/// The caller's nodes, how many of them are in use, and how many versions there are. A slice and how much of it is used, and no vector: the caller's memory
+/// is the project's rule, and there is no heap.
+/// That a call keeps the reference to them stands as a clause `same_slice` at each call: an invariant of the type speaks of one value, and not of two.
 pub struct NodeTable<'a, Q> {
     nodes: &'a mut [Node<Q>],
     used: u32,

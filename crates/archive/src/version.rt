@@ -4,7 +4,7 @@ ghost use Rattle.archive.specs.Records.{kind_number, begun_record};
 
 use nodes::Built;
 
-// How a version came about, by the kind byte that its record in a journal has: 0 for version 0, which begin makes.
+/// How a version came about, by the kind byte that its record in a journal has: 0 for version 0, which begin makes.
 #[derive(Clone, Copy, PartialEq, Eq, Debug, Default)]
 pub enum Kind {
     #[default]
@@ -24,7 +24,7 @@ const _: () = prove!(Kind::Change as u8 == 3);
 const _: () = prove!(Kind::Removal as u8 == 4);
 
 impl Kind {
-    // The number of a kind of edit: its kind byte in a journal, and 0 for version 0.
+    /// The number of a kind of edit: its kind byte in a journal, and 0 for version 0.
     pub fn number(&self) -> u8
         ensures { result ≡ kind_number self.now }
     {
@@ -32,7 +32,7 @@ impl Kind {
     }
 }
 
-// A version's record. What an edit does not have is 0; `Version::default()` is a record that no archive has written.
+/// A version's record. What an edit does not have is 0; `Version::default()` is a record that no archive has written.
 #[derive(Clone, Copy, PartialEq, Eq, Debug, Default)]
 pub struct Version {
     pub parent: u32,

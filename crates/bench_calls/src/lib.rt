@@ -1,7 +1,7 @@
-// Calls of the library for a program that is not written in Rattle, as the benchmark is. Each loads a journal into tables of its own, carries out rounds of
-// calls on the archive that the journal gives, and tells one number of all replies, by which two implementations can be compared. It takes the time of the
-// load and of the rounds, so that the rounds' time is what it takes longer than with none. A row that is put in is the first readings of the row area, as
-// the load left it. Each is thin over a function of the same name, which can fail for want of memory.
+//! Calls of the library for a program that is not written in Rattle, as the benchmark is. Each loads a journal into tables of its own, carries out rounds of
+//! calls on the archive that the journal gives, and tells one number of all replies, by which two implementations can be compared. It takes the time of the
+//! load and of the rounds, so that the rounds' time is what it takes longer than with none. A row that is put in is the first readings of the row area, as
+//! the load left it. Each is thin over a function of the same name, which can fail for want of memory.
 #![tactic(auto)]
 
 ghost use Rattle.std.specs.Prelude.{◌+◌, ◌%◌, ◌^◌, [], map, IsTrue};
@@ -18,7 +18,7 @@ mod told;
 
 pub use told::Told;
 
-// No call: the load alone.
+/// No call: the load alone.
 #[unsafe(no_mangle)]
 pub extern "C" fn bench_calls_load(heap: Global, journal: &[u8]) -> Told
     ensures { IsTrue result.done → Timed journal.now [] 0 result.number }
@@ -26,7 +26,7 @@ pub extern "C" fn bench_calls_load(heap: Global, journal: &[u8]) -> Told
     Told::of(asking::load(heap, journal))
 }
 
-// As many appends to a version as there are numbers.
+/// As many appends to a version as there are numbers.
 #[unsafe(no_mangle)]
 pub extern "C" fn bench_calls_append(
     heap: Global,
@@ -42,7 +42,7 @@ pub extern "C" fn bench_calls_append(
     Told::of(asking::append(heap, journal, base, len, times, rounds))
 }
 
-// An insert at each place.
+/// An insert at each place.
 #[unsafe(no_mangle)]
 pub extern "C" fn bench_calls_insert(
     heap: Global,
@@ -59,7 +59,7 @@ pub extern "C" fn bench_calls_insert(
     Told::of(asking::insert(heap, journal, base, level, len, places, rounds))
 }
 
-// The reading at each position.
+/// The reading at each position.
 #[unsafe(no_mangle)]
 pub extern "C" fn bench_calls_reading(
     heap: Global,
@@ -74,7 +74,7 @@ pub extern "C" fn bench_calls_reading(
     Told::of(asking::reading(heap, journal, version, positions, rounds))
 }
 
-// So many readings from each start on, written to the output's start.
+/// So many readings from each start on, written to the output's start.
 #[unsafe(no_mangle)]
 pub extern "C" fn bench_calls_span(
     heap: Global,
@@ -91,7 +91,7 @@ pub extern "C" fn bench_calls_span(
     Told::of(asking::span(heap, journal, version, len, starts, rounds))
 }
 
-// The summary of so many readings from each start on.
+/// The summary of so many readings from each start on.
 #[unsafe(no_mangle)]
 pub extern "C" fn bench_calls_summary(
     heap: Global,

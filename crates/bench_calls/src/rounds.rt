@@ -1,5 +1,5 @@
 // Rounds of the same calls on an archive.
-// `lender`: that the table stays the caller's slice speaks of two values, so that no invariant of its type can say it.
+// `same_slice`: that the table stays the caller's slice speaks of two values, so that no invariant of its type can say it.
 ghost use Rattle.std.specs.Prelude.{◌≡◌, length};
 ghost use Rattle.archive.specs.Calling.{archive_of};
 ghost use Rattle.bench_calls.specs.Timed.{Rounds};
@@ -26,7 +26,7 @@ pub(crate) fn carry_rounds<S: BlockStore<Reading = Count>>(
     ensures told { Rounds S.BlockStore readings.now calls.now
         (archive_of table.old versions.old store.old) out.old rounds result
         (archive_of table.new versions.new store.new) out.new }
-    ensures lender { table.new.nodes.ghost_name ≡ table.old.nodes.ghost_name }
+    ensures same_slice { table.new.nodes.ghost_name ≡ table.old.nodes.ghost_name }
 {
     let mut sum = 0;
     for _ in 0..rounds {

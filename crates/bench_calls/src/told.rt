@@ -4,7 +4,7 @@ ghost use Rattle.bench_calls.specs.Tells.{told_of};
 
 use std::alloc::AllocError;
 
-// The number, where memory did not fail.
+/// The number, where memory did not fail.
 #[repr(C)]
 #[derive(Clone, Copy)]
 pub struct Told {

@@ -10,3 +10,8 @@ pub mod Bounds
 pub mod Exact
 pub mod Folding
 pub mod Values
+pub mod PlacedNodes
+pub mod Laying
+pub mod Sound
+pub mod EditBounds
+pub mod Chains

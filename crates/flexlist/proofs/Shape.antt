@@ -1,10 +1,10 @@
 -- A FlexList is a tree whose levels fall along it, and every stretch has exactly one.
-use Rattle.std.proofs.Common.{◌≡◌, ℕ, zero, suc, ◌-◌, ◌<◌, ◌≤◌, cond, ltb, List, [], ◌∷◌, ◌++◌, map, sym, refl, ap, ◌∙◌, ap₂, subst₂, inl, arith}
+use Rattle.std.proofs.Common.{◌≡◌, ℕ, zero, suc, ◌-◌, ◌<◌, ◌≤◌, ltb, List, [], ◌∷◌, ◌++◌, map, sym, refl, ap, ◌∙◌, ap₂, subst₂, inl, arith}
 use Rattle.std.specs.List.{AllByRecursion}
 use Rattle.std.proofs.lemmas.Bool.{ltb-true, ltb-false, lt-ltb, le-ltb, cond_both, cond-true, cond-false}
 use Rattle.std.proofs.ByRecursion.{All-weaker, All-append}
 use Rattle.std.proofs.lemmas.List.{map-append}
-use Rattle.flexlist.specs.Shape.{Block, block, Tree, last, leaf, fork, FlexList, alone, level_0, first_greatest, ExactlyOne}
+use Rattle.flexlist.specs.Shape.{Block, block, Tree, last, leaf, fork, front, led, flexlist, FlexList, alone, level_0, first_greatest, ExactlyOne}
 use Rattle.flexlist.specs.Nodes.{identities, Among}
 
 -- how high the highest block behind the leader is
@@ -13,43 +13,28 @@ top (last a) = 0
 top (leaf a t) = 0
 top (fork m s t) = m
 
--- a leader put before a tree, whose own leader then has level k
-unfoldable pub front : ℕ → ℕ → Tree → Tree
-front l zero t = leaf l t
-front l (suc k) t = fork (suc k) (last l) t
-
-unfoldable pub cons : ℕ → ℕ → Tree → Tree
-unfolding front
-cons l k (last a) = front l k (last a)
-cons l k (leaf a t) = front l k (leaf a t)
-cons l k (fork m s t) = cond (ltb k m) (fork m (cons l k s) t) (front l k (fork m s t))
-
-unfoldable pub flex : ℕ → List Block → Tree
-flex l [] = last l
-flex l (b ∷ bs) = cons l b.level (flex b.identity bs)
-
-cons_stops : (l k : ℕ) (t : Tree) → top t ≤ k → cons l k t ≡ front l k t
-unfolding cons top
-cons_stops l k (last a) h = refl
-cons_stops l k (leaf a t) h = refl
-cons_stops l k (fork m s t) h = cond-false (ltb k m) _ _ (le-ltb k m h)
+led_stops : (l k : ℕ) (t : Tree) → top t ≤ k → led l k t ≡ front l k t
+unfolding led top
+led_stops l k (last a) h = refl
+led_stops l k (leaf a t) h = refl
+led_stops l k (fork m s t) h = cond-false (ltb k m) _ _ (le-ltb k m h)
 
 top_front : (b l k : ℕ) (t : Tree) → k ≤ b → top (front l k t) ≤ b
 unfolding front top
 top_front b l zero t h = omega arith
 top_front b l (suc k) t h = h
 
-top_cons : (b l k : ℕ) (t : Tree) → k ≤ b → top t ≤ b → top (cons l k t) ≤ b
-unfolding cons top
-top_cons b l k (last a) h g = top_front b l k (last a) h
-top_cons b l k (leaf a t) h g = top_front b l k (leaf a t) h
-top_cons b l k (fork m s t) h g =
+top_led : (b l k : ℕ) (t : Tree) → k ≤ b → top t ≤ b → top (led l k t) ≤ b
+unfolding led top
+top_led b l k (last a) h g = top_front b l k (last a) h
+top_led b l k (leaf a t) h g = top_front b l k (leaf a t) h
+top_led b l k (fork m s t) h g =
     cond_both (ltb k m) _ _ (λ x. top x ≤ b) (λ _. g) (λ _. top_front b l k (fork m s t) h)
 
-top_flex : (b l : ℕ) (bs : List Block) → AllByRecursion (λ x. x.level ≤ b) bs → top (flex l bs) ≤ b
-unfolding flex top
+top_flex : (b l : ℕ) (bs : List Block) → AllByRecursion (λ x. x.level ≤ b) bs → top (flexlist l bs) ≤ b
+unfolding flexlist top
 top_flex b l [] h = omega arith
-top_flex b l (x ∷ bs) h = top_cons b l x.level (flex x.identity bs) h.0 (top_flex b x.identity bs h.1)
+top_flex b l (x ∷ bs) h = top_led b l x.level (flexlist x.identity bs) h.0 (top_flex b x.identity bs h.1)
 
 front_fork : (l k : ℕ) (t : Tree) → 0 < k → front l k t ≡ fork k (last l) t
 unfolding front
@@ -59,21 +44,21 @@ front_fork l (suc k) t p = refl
 flex_split :
     (l : ℕ) (xs : List Block) (j : Block) (ys : List Block) → 0 < j.level →
     AllByRecursion (λ x. x.level < j.level) xs → AllByRecursion (λ x. x.level ≤ j.level) ys →
-    flex l (xs ++ j ∷ ys) ≡ fork j.level (flex l xs) (flex j.identity ys)
-unfolding flex cons
+    flexlist l (xs ++ j ∷ ys) ≡ fork j.level (flexlist l xs) (flexlist j.identity ys)
+unfolding flexlist led
 flex_split l [] j ys p h g =
-    cons_stops l j.level (flex j.identity ys) (top_flex _ _ ys g) ∙ front_fork l j.level _ p
+    led_stops l j.level (flexlist j.identity ys) (top_flex _ _ ys g) ∙ front_fork l j.level _ p
 flex_split l (x ∷ xs) j ys p h g =
-    ap (cons l x.level) (flex_split x.identity xs j ys p h.1 g) ∙
+    ap (led l x.level) (flex_split x.identity xs j ys p h.1 g) ∙
     cond-true (ltb x.level j.level) _ _ (lt-ltb _ _ h.0)
 
 -- any FlexList of a stretch is the one that is made block by block
-pub flex_only : {l : ℕ} {bs : List Block} {t : Tree} → FlexList l bs t → t ≡ flex l bs
-unfolding flex front
+pub flex_only : {l : ℕ} {bs : List Block} {t : Tree} → FlexList l bs t → t ≡ flexlist l bs
+unfolding flexlist front
 flex_only alone = refl
 flex_only (level_0 {leader = l} {b = b} {bs = bs} zs f) =
     ap (leaf l) (flex_only f) ∙
-    sym (rw zs.0 (cons_stops l 0 (flex b.identity bs) (top_flex 0 _ bs (All-weaker _ _ (λ x e. omega arith) bs zs.1))))
+    sym (rw zs.0 (led_stops l 0 (flexlist b.identity bs) (top_flex 0 _ bs (All-weaker _ _ (λ x e. omega arith) bs zs.1))))
 flex_only (first_greatest {leader = l} xs j ys p h g f₁ f₂) =
     ap₂ (fork j.level) (flex_only f₁) (flex_only f₂) ∙ sym (flex_split l xs j ys p h g)
 
@@ -177,15 +162,15 @@ falls_flex t l k bs h e =
     let tails : rest t ≡ bs = cc in
     subst₂ (λ (x : ℕ) (xs : List Block). FlexList x xs t) (ap (λ b. b.identity) heads) tails (falls_rest t h)
 
-cells_cons : (k l j : ℕ) (t : Tree) → cells k (cons l j t) ≡ block l k ∷ cells j t
-unfolding cells cons front
-cells_cons k l zero (last a) = refl
-cells_cons k l (suc j) (last a) = refl
-cells_cons k l zero (leaf a t) = refl
-cells_cons k l (suc j) (leaf a t) = refl
-cells_cons k l j (fork m s t) =
+cells_led : (k l j : ℕ) (t : Tree) → cells k (led l j t) ≡ block l k ∷ cells j t
+unfolding cells led front
+cells_led k l zero (last a) = refl
+cells_led k l (suc j) (last a) = refl
+cells_led k l zero (leaf a t) = refl
+cells_led k l (suc j) (leaf a t) = refl
+cells_led k l j (fork m s t) =
     cond_both (ltb j m) _ _ (λ x. cells k x ≡ block l k ∷ cells j (fork m s t))
-    (λ _. ap {B = List Block} (λ x. x ++ cells m t) (cells_cons k l j s)) (λ _. before k l j (fork m s t))
+    (λ _. ap {B = List Block} (λ x. x ++ cells m t) (cells_led k l j s)) (λ _. before k l j (fork m s t))
   where
     before : (k l j : ℕ) (t : Tree) → cells k (front l j t) ≡ block l k ∷ cells j t
     before k l zero t = refl
@@ -196,27 +181,27 @@ unfolding front top
 falls_front l zero t f h = (omega arith, f)
 falls_front l (suc j) t f h = (omega arith, h, tt, f)
 
-falls_cons : (l j : ℕ) (t : Tree) → Falls t → Falls (cons l j t)
-unfolding cons top
-falls_cons l j (last a) f = falls_front l j (last a) f (omega arith)
-falls_cons l j (leaf a t) f = falls_front l j (leaf a t) f (omega arith)
-falls_cons l j (fork m s t) f =
+falls_led : (l j : ℕ) (t : Tree) → Falls t → Falls (led l j t)
+unfolding led top
+falls_led l j (last a) f = falls_front l j (last a) f (omega arith)
+falls_led l j (leaf a t) f = falls_front l j (leaf a t) f (omega arith)
+falls_led l j (fork m s t) f =
     cond_both (ltb j m) _ _ Falls
     (λ e. let k : j < m = ltb-true j m e in
-    let low : top (cons l j s) ≤ m - 1 = top_cons (m - 1) l j s (omega arith) (omega arith) in
-    (omega arith, f.1, falls_cons l j s f.2, f.3))
+    let low : top (led l j s) ≤ m - 1 = top_led (m - 1) l j s (omega arith) (omega arith) in
+    (omega arith, f.1, falls_led l j s f.2, f.3))
     (λ e. falls_front l j (fork m s t) f (ltb-false j m e))
 
-flex_is : (k l : ℕ) (bs : List Block) → (cells k (flex l bs) ≡ block l k ∷ bs) × Falls (flex l bs)
-unfolding flex cells
+flex_is : (k l : ℕ) (bs : List Block) → (cells k (flexlist l bs) ≡ block l k ∷ bs) × Falls (flexlist l bs)
+unfolding flexlist cells
 flex_is k l [] = (refl, tt)
 flex_is k l (b ∷ bs) =
     let more = flex_is b.level b.identity bs in (
-      cells_cons k l b.level (flex b.identity bs) ∙ ap {B = List Block} (λ x. block l k ∷ x) more.0,
-      falls_cons l b.level (flex b.identity bs) more.1,
+      cells_led k l b.level (flexlist b.identity bs) ∙ ap {B = List Block} (λ x. block l k ∷ x) more.0,
+      falls_led l b.level (flexlist b.identity bs) more.1,
     )
 
 pub exactly_one : ExactlyOne
 exactly_one l bs =
     let made = flex_is 0 l bs in
-    record { tree = flex l bs; is = falls_flex (flex l bs) l 0 bs made.1 made.0; only = λ t f. flex_only f }
+    record { is = falls_flex (flexlist l bs) l 0 bs made.1 made.0; only = λ t f. flex_only f }

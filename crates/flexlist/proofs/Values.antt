@@ -1,25 +1,25 @@
 -- The worked values, computed.
 use Rattle.std.proofs.Common.{ℕ, List, [], ◌∷◌, length, ap, ap₂}
-use Rattle.flexlist.specs.Shape.{Block, block}
+use Rattle.flexlist.specs.Shape.{Block, block, front, led, flexlist}
 use Rattle.flexlist.specs.Nodes.{stretches, nodes, nodes_of_both, to_place, leaves}
 use Rattle.flexlist.specs.Sharing.{written, missing}
 use Rattle.flexlist.specs.Values.{Shaped, Writes, PathOf, PathsOf, blocks, ShapeValues}
-use Rattle.flexlist.proofs.Shape.{front, cons, flex, flex_only}
+use Rattle.flexlist.proofs.Shape.{flex_only}
 
-shaped : (ks : List ℕ) → Shaped ks (flex 0 (blocks ks)) (length (stretches (flex 0 (blocks ks))))
+shaped : (ks : List ℕ) → Shaped ks (flexlist 0 (blocks ks)) (length (stretches (flexlist 0 (blocks ks))))
 shaped ks t f = (flex_only f, ap (λ x. length (stretches x)) (flex_only f))
 
-writes : (xs ys : List Block) → Writes xs ys (written (flex 0 xs) (flex 0 ys))
+writes : (xs ys : List Block) → Writes xs ys (written (flexlist 0 xs) (flexlist 0 ys))
 writes xs ys base new f g = ap₂ written (flex_only f) (flex_only g)
 
-path_of : (xs : List Block) (p : ℕ) → PathOf xs p (nodes (to_place (flex 0 xs) p))
+path_of : (xs : List Block) (p : ℕ) → PathOf xs p (nodes (to_place (flexlist 0 xs) p))
 path_of xs p t f = ap (λ x. nodes (to_place x p)) (flex_only f)
 
-paths_of : (xs : List Block) (p q : ℕ) → PathsOf xs p q (nodes_of_both (to_place (flex 0 xs) p) (to_place (flex 0 xs) q))
+paths_of : (xs : List Block) (p q : ℕ) → PathsOf xs p q (nodes_of_both (to_place (flexlist 0 xs) p) (to_place (flexlist 0 xs) q))
 paths_of xs p q t f = ap (λ x. nodes_of_both (to_place x p) (to_place x q)) (flex_only f)
 
 pub shape_values : ShapeValues
-unfolding front cons flex written missing nodes nodes_of_both to_place leaves
+unfolding front led flexlist written missing nodes nodes_of_both to_place leaves
 shape_values =
     record {
       no_blocks = shaped [];

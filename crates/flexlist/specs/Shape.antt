@@ -1,5 +1,5 @@
 -- Which tree is the FlexList of a stretch.
-use Rattle.std.specs.Prelude.{◌≡◌, ℕ, ◌<◌, ◌≤◌, List, [], ◌∷◌, ◌++◌}
+use Rattle.std.specs.Prelude.{◌≡◌, ℕ, zero, suc, ◌<◌, ◌≤◌, cond, nat_lt, List, [], ◌∷◌, ◌++◌}
 use Rattle.std.specs.List.{AllByRecursion}
 
 -- A block: an identity that tells it from every other, and its level.
@@ -27,11 +27,27 @@ pub data FlexList : ℕ → List Block → Tree → Type 0 where
       0 < j.level → AllByRecursion (λ x. x.level < j.level) xs → AllByRecursion (λ x. x.level ≤ j.level) ys →
       FlexList leader xs s → FlexList j.identity ys t → FlexList leader (xs ++ j ∷ ys) (fork j.level s t)
 
+-- The same tree, made from the last block on. A leader is put before a tree whose own leader has level k: as a leaf where k is 0, else below a
+-- fork of level k.
+unfoldable pub front : ℕ → ℕ → Tree → Tree
+front l zero t = leaf l t
+front l (suc k) t = fork (suc k) (last l) t
+
+-- The same before any tree: where that is a higher fork, the leader goes below it.
+unfoldable pub led : ℕ → ℕ → Tree → Tree
+unfolding front
+led l k (last a) = front l k (last a)
+led l k (leaf a t) = front l k (leaf a t)
+led l k (fork m s t) = cond (nat_lt k m) (fork m (led l k s) t) (front l k (fork m s t))
+
+unfoldable pub flexlist : ℕ → List Block → Tree
+flexlist l [] = last l
+flexlist l (b ∷ bs) = led l b.level (flexlist b.identity bs)
+
 -- Every stretch has exactly one FlexList, whatever the levels.
 pub record OneFlexList (leader : ℕ) (bs : List Block) : Type 0 where
-  pub tree : Tree
-  pub is : FlexList leader bs tree
-  pub only : (t : Tree) → FlexList leader bs t → t ≡ tree
+  pub is : FlexList leader bs (flexlist leader bs)
+  pub only : (t : Tree) → FlexList leader bs t → t ≡ flexlist leader bs
 
 abbrev pub ExactlyOne : Type 0
 ExactlyOne = (leader : ℕ) (bs : List Block) → OneFlexList leader bs

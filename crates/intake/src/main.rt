@@ -1,4 +1,4 @@
-// Takes raw counts in from standard input, and writes the journal of an archive of their rows to standard output.
+//! Takes raw counts in from standard input, and writes the journal of an archive of their rows to standard output.
 #![tactic(auto)]
 
 use intake_bytes::intake_stream;

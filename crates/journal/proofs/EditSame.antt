@@ -6,7 +6,7 @@ use Rattle.store.specs.declared.cause.Cause.{Cause}
 use Rattle.store.specs.declared.row.RowStore.{RowStore}
 use Rattle.store.specs.Keeping.{row_keeping}
 use Rattle.store.proofs.Same.{Alike, refusal_same, put_same, taken_allowed}
-use Rattle.history.specs.Edits.{Edit}
+use Rattle.flexlist.specs.Edits.{Edit}
 use Rattle.archive.specs.declared.fault.EditFault.{EditFault}
 use Rattle.archive.specs.declared.fault.EditFault.TheVariants as fault
 use Rattle.archive.specs.declared.table.Accepted.{Accepted}

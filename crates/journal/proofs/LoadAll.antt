@@ -5,7 +5,7 @@ use Rattle.std.specs.List.{AllByRecursion}
 use Rattle.std.proofs.lemmas.List.{drop_all, map_push}
 use Rattle.std.proofs.ByRecursion.{All-push}
 use Rattle.summary.specs.Summing.{Summing}
-use Rattle.history.specs.Edits.{Edit}
+use Rattle.flexlist.specs.Edits.{Edit}
 use Rattle.archive.specs.declared.fault.EditFault.{EditFault}
 use Rattle.archive.specs.declared.table.Accepted.{Accepted}
 use Rattle.archive.specs.Calling.{Archive, Answered, Standing, EditKept, EditAccepted, RowRefused, asked_refusal, number_in, edit_asked}

@@ -3,12 +3,12 @@ use Rattle.std.proofs.Common.{◌≡◌, ℕ, suc, ◌^◌, ◌<◌, ◌≤◌, 
 use Rattle.std.specs.List.{AllByRecursion}
 use Rattle.std.proofs.lemmas.Bool.{eqb-true, cond-true, cond-false}
 use Rattle.summary.specs.Summing.{Summing}
-use Rattle.history.specs.Edits.{Content, Item, Edit, base_of, first_changed, done, list_of}
-use Rattle.history.specs.Edits as edits
-use Rattle.history.specs.Replay.{InPlace}
-use Rattle.history.proofs.Bounds.{first_of}
+use Rattle.flexlist.specs.Edits.{Content, Item, Edit, base_of, first_changed, done, list_of}
+use Rattle.flexlist.specs.Edits as edits
+use Rattle.flexlist.specs.Replay.{InPlace}
+use Rattle.flexlist.proofs.EditBounds.{first_of}
 use Rattle.archive.specs.Records.{edit_of, edits_before}
-use Rattle.archive.specs.Stands.{Tables, Fair, TablesStand}
+use Rattle.archive.specs.Stands.{Tables, WithinLimits, TablesStand}
 use Rattle.archive.specs.Calling.{EachInPlace}
 use Rattle.archive.proofs.Later.{list_later, list_new, edit_later, edit_new, edit_past, same_some, some_none}
 use Rattle.archive.proofs.Looks.{nth_some}
@@ -54,26 +54,26 @@ module _ {R : Type 0} where
           }
 
   -- the block that an edit makes stands in its list
-  changed_fair : (n : ℕ) (c : Content R) (xs : List (Item R)) (x : Item R) (ys : List (Item R)) → xs ≡ x ∷ ys → AllByRecursion Fair (first_changed n c xs) → RowFits c.row
+  changed_fair : (n : ℕ) (c : Content R) (xs : List (Item R)) (x : Item R) (ys : List (Item R)) → xs ≡ x ∷ ys → AllByRecursion WithinLimits (first_changed n c xs) → RowFits c.row
   changed_fair n c [] x ys h all = let z : ◌≡◌ {A = ℕ} 0 1 = cc in absurd (omega arith)
   changed_fair n c (w ∷ xs) x ys h all = record { some = all.0.some; most = all.0.most }
 
-  -- an edit whose numbers are small and whose list is fair fits
-  fits_by : (v : ℕ) (e : Edit R) (before : List (Edit R)) → base_of e < 4096 → InPlace before e → length (list_of before (base_of e)) ≤ 500 → AllByRecursion Fair (done v e (list_of before (base_of e))) → Fits (entry_of e)
-  fits_by v (edits.Edit.insert base place level content) before hb hp few fair =
-      let own = (all_end Fair (take place (list_of before base)) (record { identity = v; level = level; content = content } ∷ drop place (list_of before base)) fair).0 in
+  -- an edit whose numbers are small and whose list is within the limits fits
+  fits_by : (v : ℕ) (e : Edit R) (before : List (Edit R)) → base_of e < 4096 → InPlace before e → length (list_of before (base_of e)) ≤ 500 → AllByRecursion WithinLimits (done v e (list_of before (base_of e))) → Fits (entry_of e)
+  fits_by v (edits.Edit.insert base place level content) before hb hp few in_limits =
+      let own = (all_end WithinLimits (take place (list_of before base)) (record { identity = v; level = level; content = content } ∷ drop place (list_of before base)) in_limits).0 in
       let flat = own.level in
       let b : base < 2 ^ 16 = omega arith in
       let p : place < 2 ^ 16 = omega arith in
       let l : level < 256 = omega arith in
       (b, p, l, record { some = own.some; most = own.most })
-  fits_by v (edits.Edit.change base place content) before hb hp few fair =
+  fits_by v (edits.Edit.change base place content) before hb hp few in_limits =
       let first = first_of place (list_of before base) hp in
-      let own = changed_fair v content (drop place (list_of before base)) first.0 first.1 first.2 (all_end Fair (take place (list_of before base)) (first_changed v content (drop place (list_of before base))) fair) in
+      let own = changed_fair v content (drop place (list_of before base)) first.0 first.1 first.2 (all_end WithinLimits (take place (list_of before base)) (first_changed v content (drop place (list_of before base))) in_limits) in
       let b : base < 2 ^ 16 = omega arith in
       let p : place < 2 ^ 16 = omega arith in
       (b, p, own)
-  fits_by v (edits.Edit.removal base place) before hb hp few fair =
+  fits_by v (edits.Edit.removal base place) before hb hp few in_limits =
       let b : base < 2 ^ 16 = omega arith in
       let p : place < 2 ^ 16 = omega arith in
       (b, p)
@@ -87,12 +87,12 @@ module _ {R : Type 0} where
       (each (suc (length es)) e (edit_new e es), tt)
 
 module _ {R Q : Type 0} (means : Summing R Q) (es : List (Edit R)) (s : Tables Q) (stands : TablesStand means es s) (placed : EachInPlace es) where
-  version : (v : ℕ) → v ≤ length es → (AllByRecursion Fair (list_of es v)) × (length (list_of es v) ≤ 500)
+  version : (v : ℕ) → v ≤ length es → (AllByRecursion WithinLimits (list_of es v)) × (length (list_of es v) ≤ 500)
   version v h =
       let many = stands.as_many in
       let t = nth_some stands.trees v (omega arith) in
       let w = stands.each v t.0 t.1 in
-      (w.fair, w.few)
+      (w.in_limits, w.few)
 
   edit_fits : (v : ℕ) (e : Edit R) → edit_of es v ≡ Some e → Fits (entry_of e)
   edit_fits v e h =
@@ -101,7 +101,7 @@ module _ {R Q : Type 0} (means : Summing R Q) (es : List (Edit R)) (s : Tables Q
       let g = gave es v e h in
       let counted = stands.counted in
       let few : s.count ≤ 4096 = omega (arith, stands.versions_fit) in
-      fits_by v e (edits_before es v) (omega arith) (placed v e h) (subst (λ l. length l ≤ 500) (g.same (base_of e) older) (version (base_of e) (omega arith)).1) (subst (AllByRecursion Fair) g.list (version v past).0)
+      fits_by v e (edits_before es v) (omega arith) (placed v e h) (subst (λ l. length l ≤ 500) (g.same (base_of e) older) (version (base_of e) (omega arith)).1) (subst (AllByRecursion WithinLimits) g.list (version v past).0)
 
   pub entries_fit : AllByRecursion Fits (entries_of es)
   entries_fit = all_entries es edit_fits

@@ -3,7 +3,7 @@ use Rattle.store.specs.Keeping.{Keeping}
 use Rattle.std.proofs.Common.{◌≡◌, ℕ, Bool, true, false, cond, ◌||◌, ◌==◌, length, List, [], ◌∷◌, ◌++◌, Some, None, Ok, Err, Result, sym, refl, ap, ap₂, ◌∙◌, subst, arith}
 use Rattle.std.proofs.lemmas.List.{append-nil, append_assoc}
 use Rattle.summary.specs.Summing.{Summing}
-use Rattle.history.specs.Edits.{Edit}
+use Rattle.flexlist.specs.Edits.{Edit}
 use Rattle.archive.specs.Calling.{Archive, Standing, number_in, edit_asked}
 use Rattle.archive.proofs.Later.{same_some}
 use Rattle.runs.specs.Runs.{History}

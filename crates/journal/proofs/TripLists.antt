@@ -2,10 +2,10 @@
 use Rattle.std.proofs.Common.{◌≡◌, ℕ, suc, Bool, true, false, eqb, List, [], ◌∷◌, ◌++◌, map, length, take, drop, sym, refl, ap, ◌∙◌, arith}
 use Rattle.std.proofs.lemmas.List.{map-append, take-map, drop-map, length_push, same_from_push}
 use Rattle.std.proofs.lemmas.Bool.{cond-true, cond-false}
-use Rattle.history.specs.Edits.{Content, Item, Edit, base_of, first_changed, done, list_of}
-use Rattle.history.specs.Edits as edits
-use Rattle.history.specs.Chains.{chain_of, replayed}
-use Rattle.history.proofs.Chains.{chains_replayed}
+use Rattle.flexlist.specs.Edits.{Content, Item, Edit, base_of, first_changed, done, list_of}
+use Rattle.flexlist.specs.Edits as edits
+use Rattle.flexlist.specs.Chains.{chain_of, replayed}
+use Rattle.flexlist.proofs.Chains.{chains_replayed}
 use Rattle.journal.specs.Format.{Entry, insert, change, removal, entry_of, entries_of}
 use Rattle.journal.specs.Writing.{Shown, shown}
 

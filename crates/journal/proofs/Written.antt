@@ -4,9 +4,9 @@ use Rattle.std.proofs.Common.{◌≡◌, ℕ, zero, suc, ◌+◌, ◌-◌, ◌<�
 use Rattle.std.specs.List.{slice_get, flat_map, AllByRecursion}
 use Rattle.std.proofs.lemmas.Bool.{cases_lt}
 use Rattle.summary.specs.Summing.{Summing}
-use Rattle.laid.specs.Laid.{root}
-use Rattle.history.specs.Edits.{Item, Edit, insert, change, removal, first_changed, list_of}
-use Rattle.history.specs.Replay.{InPlace, next_list}
+use Rattle.flexlist.specs.Laid.{root}
+use Rattle.flexlist.specs.Edits.{Item, Edit, insert, change, removal, first_changed, list_of}
+use Rattle.flexlist.specs.Replay.{InPlace, next_list}
 use Rattle.archive.specs.declared.version.Version.{Version}
 use Rattle.archive.specs.Records.{edit_of, edits_before, edit_record, record_by}
 use Rattle.archive.specs.Stands.{Tables, RowsStand}

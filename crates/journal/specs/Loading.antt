@@ -3,7 +3,7 @@ use Rattle.store.specs.Keeping.{Keeping}
 use Rattle.std.specs.Prelude.{◌≡◌, ℕ, ◌+◌, ◌<◌, ◌≤◌, List, [], ◌∷◌, ◌++◌, map, length, take, drop, Some, None, Ok, Err, Result, ◌≢◌}
 use Rattle.std.specs.List.{AllByRecursion}
 use Rattle.summary.specs.Summing.{Summing}
-use Rattle.history.specs.Edits.{Edit}
+use Rattle.flexlist.specs.Edits.{Edit}
 use Rattle.nodes.specs.declared.node.Node.{Node}
 use Rattle.archive.specs.declared.version.Version.{Version}
 use Rattle.archive.specs.declared.begin.Begun.{Begun}

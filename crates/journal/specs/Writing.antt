@@ -2,7 +2,7 @@
 use Rattle.store.specs.Keeping.{Keeping}
 use Rattle.std.specs.Prelude.{◌≡◌, ℕ, suc, ◌≤◌, List, ◌++◌, map, length, take, drop, Some, None, Ok, Err, MatchBool, Result, ◌≢◌, nat_le}
 use Rattle.summary.specs.Summing.{Summing}
-use Rattle.history.specs.Edits.{Item, Edit, list_of}
+use Rattle.flexlist.specs.Edits.{Item, Edit, list_of}
 use Rattle.nodes.specs.declared.node.Node.{Node}
 use Rattle.archive.specs.declared.version.Version.{Version}
 use Rattle.archive.specs.declared.fault.EditFault.{EditFault}

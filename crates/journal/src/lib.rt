@@ -1,4 +1,4 @@
-// Journals: an archive as bytes, to be exchanged between benches.
+//! Journals: an archive as bytes, to be exchanged between benches.
 #![tactic(auto)]
 
 mod fault;

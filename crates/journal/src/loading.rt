@@ -1,5 +1,5 @@
 // Loading a journal. It takes as many steps as the journal has bytes, and the steps of the edits.
-// `lender`: that the table stays the caller's slice speaks of two values, so that no invariant of its type can say it.
+// `same_slice`: that the table stays the caller's slice speaks of two values, so that no invariant of its type can say it.
 ghost use Rattle.std.specs.Prelude.{◌≡◌};
 ghost use Rattle.archive.specs.Calling.{archive_of};
 ghost use Rattle.journal.specs.Format.{coding};
@@ -19,10 +19,10 @@ mod taking;
 
 pub use loaded::Loaded;
 
-// Begins an archive in the caller's tables, and takes in the edits of a journal, one after another, up to its end or to the first fault, which is told
-// with the place where the record at fault begins. Readings go to the front of the row area as soon as they are read. What was taken in before a fault
-// stays.
-// Thin over a function with the same promise: that has a proof written by hand, and a fault here is then refused for the fact that fails.
+/// Begins an archive in the caller's tables, and takes in the edits of a journal, one after another, up to its end or to the first fault, which is told
+/// with the place where the record at fault begins. Readings go to the front of the row area as soon as they are read. What was taken in before a fault
+/// stays.
+/// Thin over a function with the same promise: that has a proof written by hand, and a fault here is then refused for the fact that fails.
 pub fn load<'a, S: BlockStore, Q: Summary<Reading = S::Reading>>(
     bytes: &[u8],
     nodes: &'a mut [Node<Q>],
@@ -33,7 +33,7 @@ pub fn load<'a, S: BlockStore, Q: Summary<Reading = S::Reading>>(
     ensures loaded { LoadedFrom Q.Summary.means S.BlockStore (coding S.Reading.Reading.own) nodes.old
         versions.old store.old area.old bytes.now result.answer
         (archive_of result.table versions.new store.new) area.new }
-    ensures lender { result.table.nodes.ghost_name ≡ nodes.entry.ghost_name }
+    ensures same_slice { result.table.nodes.ghost_name ≡ nodes.entry.ghost_name }
 {
     beginning::begin_and_take_in(bytes, nodes, versions, store, area)
 }

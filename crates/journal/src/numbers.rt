@@ -5,6 +5,7 @@ ghost use Rattle.journal.specs.Faults.{fault_number, inner_refusal, store_cause}
 use crate::fault::JournalFault;
 
 impl JournalFault {
+    /// The number of a fault, 9 to 15.
     pub fn number(&self) -> u32
         ensures { result ≡ fault_number self.now }
     {
@@ -20,7 +21,7 @@ impl JournalFault {
         }
     }
 
-    // The number of the edit's refusal inside it, 0 where there is none; no option here and below, since by the project's rule a report prints 0.
+    /// The number of the edit's refusal inside it, 0 where there is none; no option here and below, since by the project's rule a report prints 0.
     pub fn refusal(&self) -> u32
         ensures { result ≡ inner_refusal self.now }
     {
@@ -30,7 +31,7 @@ impl JournalFault {
         }
     }
 
-    // The number of the store's cause inside that, 0 where there is none.
+    /// The number of the store's cause inside the edit's refusal, 0 where there is none.
     pub fn cause(&self) -> u32
         ensures { result ≡ store_cause self.now }
     {

@@ -60,9 +60,9 @@ fn write_archive<S: BlockStore, Q: Summary<Reading = S::Reading>>(
     write_tables(versions, table.count(), store, out)
 }
 
-// Writes the journal of an archive to the output's start, and answers how many bytes it has; behind it the output keeps what it had. An output that is
-// too short is refused, and stays. The kind's code is to be below 252, so that the kind byte of a reading's record is one.
-// Thin over a function with the same promise: that has a proof written by hand, and a fault here is then refused for the fact that fails.
+/// Writes the journal of an archive to the output's start, and answers how many bytes it has; behind it the output keeps what it had. An output that is
+/// too short is refused, and stays. The kind's code is to be below 252, so that the kind byte of a reading's record is one.
+/// Thin over a function with the same promise: that has a proof written by hand, and a fault here is then refused for the fact that fails.
 pub fn write<S: BlockStore, Q: Summary<Reading = S::Reading>>(
     table: &NodeTable<'_, Q>,
     versions: &[Version],

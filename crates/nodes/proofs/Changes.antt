@@ -8,8 +8,8 @@ use Rattle.summary.specs.Summing.{Summing}
 use Rattle.nodes.specs.declared.node.Node.{Node}
 use Rattle.nodes.specs.declared.node.Block.{Block}
 use Rattle.nodes.specs.declared.node.Shape.TheVariants.{Leaf, Fork}
-use Rattle.laid.specs.Laid.{Laid, fork, plain}
-use Rattle.nodes.specs.Holding.{Grown}
+use Rattle.flexlist.specs.Laid.{Laid, fork, plain}
+use Rattle.nodes.specs.Holding.{WritesFreeOnly}
 use Rattle.nodes.specs.Views.{seen, blocks_in, kept_in}
 use Rattle.nodes.specs.Making.{LeafWritten, ForkWritten}
 use Rattle.nodes.specs.Changing.{change_at, Changed}
@@ -49,19 +49,19 @@ module _ {R Q : Type 0} (s : Summing R Q) (before : List (Node Q)) {used at : �
       (λ e a y p old ready _ _ i room. lay_leaf s c before a (change_at n y p) (rest c n k y p ready i (room_leaf s c _ room)) w (as_kept s c z old) size room)
 
   pub change_below : {mid after : List (Node Q)} {m j k blocks r v next : ℕ} → Some (Fork m j k) ≡ seen at (slice_get before at) → blocks ≡ blocks_in (slice_get before j) → upto ≤ blocks
-      → Grown before used mid v → Changed s before used j upto block mid r v → length mid ≡ length before
+      → WritesFreeOnly before used mid v → Changed s before used j upto block mid r v → length mid ≡ length before
       → ForkWritten s mid v m r k after next → Changed s before used at upto block after v next
-  change_below {mid} {after} {m} {v = v} {next = next} see b u grown part size w c n k =
+  change_below {mid} {after} {m} {v = v} {next = next} see b u free_only part size w c n k =
       walk_below s c (change_at n) upto see b u
       (λ e x y p low below behind _ _ i.
       subst (Laying s c before used after v next) (sym (change_below_is n e m x y p low))
-      (λ room. lay_fork s c before m (change_at n x p) (keep y) (part c n k x p below i (room_below s c _ _ room)) (grown_none mid v) (lay_kept s c y (ready_on s c y grown behind)) w size room))
+      (λ room. lay_fork s c before m (change_at n x p) (keep y) (part c n k x p below i (room_below s c _ _ room)) (grown_none mid v) (lay_kept s c y (ready_on s c y free_only behind)) w size room))
 
   pub change_after : {mid after : List (Node Q)} {m j k blocks r v next : ℕ} → Some (Fork m j k) ≡ seen at (slice_get before at) → blocks ≡ blocks_in (slice_get before j) → blocks < upto
-      → Grown before used mid v → Changed s before used k (upto - blocks) block mid r v → length mid ≡ length before
+      → WritesFreeOnly before used mid v → Changed s before used k (upto - blocks) block mid r v → length mid ≡ length before
       → ForkWritten s mid v m j r after next → Changed s before used at upto block after v next
-  change_after {mid} {after} {m} {v = v} {next = next} see b u grown part size w c n k =
+  change_after {mid} {after} {m} {v = v} {next = next} see b u free_only part size w c n k =
       walk_after s c (change_at n) upto see b u
       (λ e x y p high below behind _ _ i.
       subst (Laying s c before used after v next) (sym (change_after_is n e m x y p high))
-      (λ room. lay_fork s c before m (keep x) (change_at n y (p - leaves (plain x))) (lay_kept s c x below) grown (part c n k y _ behind i (room_beside s c x _ room)) w size room))
+      (λ room. lay_fork s c before m (keep x) (change_at n y (p - leaves (plain x))) (lay_kept s c x below) free_only (part c n k y _ behind i (room_beside s c x _ room)) w size room))

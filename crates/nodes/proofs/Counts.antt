@@ -5,7 +5,7 @@ use Rattle.flexlist.specs.Nodes.{leaves}
 use Rattle.summary.specs.Summing.{Summing}
 use Rattle.nodes.specs.declared.node.Node.{Node}
 use Rattle.nodes.specs.declared.node.Shape.TheVariants.{Leaf, Fork}
-use Rattle.laid.specs.Laid.{Laid, last, leaf, fork, plain, leader}
+use Rattle.flexlist.specs.Laid.{Laid, last, leaf, fork, plain, leader}
 use Rattle.nodes.specs.Holding.{Content, node_of, own_blocks}
 use Rattle.nodes.specs.Views.{seen, blocks_in, kept_in}
 use Rattle.nodes.specs.Making.{LeafOf}

@@ -8,8 +8,8 @@ use Rattle.summary.specs.Summing.{Summing}
 use Rattle.nodes.specs.declared.node.Node.{Node}
 use Rattle.nodes.specs.declared.node.Block.{Block}
 use Rattle.nodes.specs.declared.node.Shape.TheVariants.{Leaf, Fork}
-use Rattle.laid.specs.Laid.{Laid, last, leaf, fork, plain}
-use Rattle.nodes.specs.Holding.{Content, Grown}
+use Rattle.flexlist.specs.Laid.{Laid, last, leaf, fork, plain}
+use Rattle.nodes.specs.Holding.{Content, WritesFreeOnly}
 use Rattle.nodes.specs.Views.{seen, blocks_in, kept_in}
 use Rattle.nodes.specs.Making.{LeafWritten, ForkWritten}
 use Rattle.nodes.specs.Cutting.{left_at, right_at, cut_at, LeftMade, RightMade, CutMade}
@@ -92,10 +92,10 @@ module _ {R Q : Type 0} (s : Summing R Q) (before : List (Node Q)) {used at : �
       (λ e x y p low below behind _ _ i. subst (Laying s c before used after r next) (sym (left_below_is e m x y p low)) (part c x p below i))
 
   pub left_after : {mid after : List (Node Q)} {m j k blocks all r v next : ℕ} → all ≡ blocks_in (slice_get before at) → (all ≡ upto → ⊥) → Some (Fork m j k) ≡ seen at (slice_get before at) → blocks ≡ blocks_in (slice_get before j) → blocks < upto
-      → Grown before used mid v → LeftMade s before used k (upto - blocks) mid r v → length mid ≡ length before
+      → WritesFreeOnly before used mid v → LeftMade s before used k (upto - blocks) mid r v → length mid ≡ length before
       → ForkWritten s mid v m j r after next → LeftMade s before used at upto after v next
   unfolding leaves
-  left_after {mid} {after} {m} {v = v} {next = next} a not_end see b u grown part size w c =
+  left_after {mid} {after} {m} {v = v} {next = next} a not_end see b u free_only part size w c =
       walk_after s c left_at upto see b u
       (λ e x y p high below behind h i j.
       let count = count_of s c p upto (fork e m x y) a h i in
@@ -103,7 +103,7 @@ module _ {R Q : Type 0} (s : Summing R Q) (before : List (Node Q)) {used at : �
       let total = count.1 in
       let to = count.2 in
       subst (Laying s c before used after v next) (sym (left_after_is e m x y p high (omega arith)))
-      (λ room. lay_fork s c before m (keep x) (left_at y (p - leaves (plain x))) (lay_kept s c x below) grown (part c y _ behind j (room_beside s c x _ room)) w size room))
+      (λ room. lay_fork s c before m (keep x) (left_at y (p - leaves (plain x))) (lay_kept s c x below) free_only (part c y _ behind j (room_beside s c x _ room)) w size room))
 
 module _ {R Q : Type 0} (s : Summing R Q) (before : List (Node Q)) {used at : ℕ} (upto : ℕ) {block : Block Q} where
   pub right_nothing : {after : List (Node Q)} {r next : ℕ} → None ≡ seen at (slice_get before at) → RightMade s before used at upto block after r next
@@ -125,13 +125,13 @@ module _ {R Q : Type 0} (s : Summing R Q) (before : List (Node Q)) {used at : �
   right_on see o u rest c n k = walk_on s c (right_at n) upto see o u (λ e a y p _ ready _ _ i. rest c n k y p ready i)
 
   pub right_below : {mid after : List (Node Q)} {m j k blocks r v next : ℕ} → Some (Fork m j k) ≡ seen at (slice_get before at) → blocks ≡ blocks_in (slice_get before j) → upto ≤ blocks
-      → Grown before used mid v → RightMade s before used j upto block mid r v → length mid ≡ length before
+      → WritesFreeOnly before used mid v → RightMade s before used j upto block mid r v → length mid ≡ length before
       → ForkWritten s mid v m r k after next → RightMade s before used at upto block after v next
-  right_below {mid} {after} {m} {v = v} {next = next} see b u grown part size w c n k =
+  right_below {mid} {after} {m} {v = v} {next = next} see b u free_only part size w c n k =
       walk_below s c (right_at n) upto see b u
       (λ e x y p low below behind _ _ i.
       subst (Laying s c before used after v next) (sym (right_below_is n e m x y p low))
-      (λ room. lay_fork s c before m (right_at n x p) (keep y) (part c n k x p below i (room_below s c _ _ room)) (grown_none mid v) (lay_kept s c y (ready_on s c y grown behind)) w size room))
+      (λ room. lay_fork s c before m (right_at n x p) (keep y) (part c n k x p below i (room_below s c _ _ room)) (grown_none mid v) (lay_kept s c y (ready_on s c y free_only behind)) w size room))
 
   pub right_after : {after : List (Node Q)} {m j k blocks r next : ℕ} → Some (Fork m j k) ≡ seen at (slice_get before at) → blocks ≡ blocks_in (slice_get before j) → blocks < upto
       → RightMade s before used k (upto - blocks) block after r next → RightMade s before used at upto block after r next
@@ -140,8 +140,8 @@ module _ {R Q : Type 0} (s : Summing R Q) (before : List (Node Q)) {used at : �
       (λ e x y p high below behind _ _ i. subst (Laying s c before used after r next) (sym (right_after_is n e m x y p high)) (part c n k y _ behind i))
 
   -- both pieces under a fork
-  pub cut_pieces : {mid then after : List (Node Q)} {level i v j w next : ℕ} → Grown before used mid v → LeftMade s before used at upto mid i v → length mid ≡ length before
-      → Grown mid v then w → RightMade s mid v at upto block then j w → length then ≡ length mid
+  pub cut_pieces : {mid then after : List (Node Q)} {level i v j w next : ℕ} → WritesFreeOnly before used mid v → LeftMade s before used at upto mid i v → length mid ≡ length before
+      → WritesFreeOnly mid v then w → RightMade s mid v at upto block then j w → length then ≡ length mid
       → ForkWritten s then w level i j after next → CutMade s before used at upto block after w next level
   unfolding cut_at
   cut_pieces {mid} {level = level} g left size g' right size' f c n k t place h i room =

@@ -6,8 +6,8 @@ use Rattle.flexlist.specs.Building.{Plan, keep, new_fork, made}
 use Rattle.flexlist.specs.Nodes.{leaves}
 use Rattle.summary.specs.Summing.{Summing}
 use Rattle.nodes.specs.declared.node.Node.{Node}
-use Rattle.laid.specs.Laid.{Laid, last, leaf, fork, plain}
-use Rattle.nodes.specs.Holding.{Content, Grown, Bounds, capacity}
+use Rattle.flexlist.specs.Laid.{Laid, last, leaf, fork, plain}
+use Rattle.nodes.specs.Holding.{Content, WritesFreeOnly, Bounds, capacity}
 use Rattle.nodes.specs.Views.{seen, blocks_in}
 use Rattle.nodes.specs.Changing.{change_at}
 use Rattle.nodes.specs.Cutting.{cut_at, insert_at}
@@ -26,9 +26,9 @@ module _ {Q : Type 0} (before : List (Node Q)) {used at upto : ℕ} where
   }
 
   -- an edit that walked
-  pub any_walked : {blocks root next : ℕ} {after : List (Node Q)} → (seen at (slice_get before at) ≡ None → ⊥) → blocks ≡ blocks_in (slice_get before at) → upto ≤ blocks → Grown before used after next → Bounds before used at root next
+  pub any_walked : {blocks root next : ℕ} {after : List (Node Q)} → (seen at (slice_get before at) ≡ None → ⊥) → blocks ≡ blocks_in (slice_get before at) → upto ≤ blocks → WritesFreeOnly before used after next → Bounds before used at root next
       → length after ≡ length before → AnyTable before used at upto after root next
-  any_walked there e u grown bounds size = record { unseen = λ h. absurd (there h); bounds = bounds; full = grown_full grown bounds size; past = λ h. absurd (omega arith) }
+  any_walked there e u free_only bounds size = record { unseen = λ h. absurd (there h); bounds = bounds; full = grown_full free_only bounds size; past = λ h. absurd (omega arith) }
 
 -- no tree that the table holds has a place to which more blocks lead than its root counts
 pub walk_past : {R Q : Type 0} (s : Summing R Q) (c : ℕ → Content R) (edit : Laid → ℕ → Plan Laid) {before after : List (Node Q)} {used at r next blocks : ℕ} (upto : ℕ)

@@ -4,7 +4,7 @@ use Rattle.flexlist.specs.Shape.{Tree}
 use Rattle.flexlist.specs.Nodes.{leaves, to_place, place}
 use Rattle.flexlist.specs.Building.{Plan, keep, new_leaf, new_fork, lead_by, merge_last, merge_leaf, merge_fork, merge, Gap, here, further, in_below, between, in_after, to_this, remove}
 use Rattle.flexlist.proofs.Places.{place_gap, place_first, place_less, place_to_place}
-use Rattle.laid.specs.Laid.{Laid, last, leaf, fork, plain, plain_plan}
+use Rattle.flexlist.specs.Laid.{Laid, last, leaf, fork, plain, plain_plan}
 use Rattle.nodes.specs.Removing.{led_by, joined_last, joined_leaf, joined_fork, joined, remove_at}
 use Rattle.nodes.proofs.Plans.{plain_cond, cond_same}
 use Rattle.nodes.proofs.Removals.{remove_here_is, remove_on_is, remove_below_is, remove_between_is, remove_after_is}

@@ -9,8 +9,8 @@ use Rattle.summary.specs.Summing.{Summing}
 use Rattle.nodes.specs.declared.node.Node.{Node}
 use Rattle.nodes.specs.declared.node.Shape.{Shape}
 use Rattle.nodes.specs.declared.node.Shape.TheVariants.{Leaf, Fork}
-use Rattle.laid.specs.Laid.{Laid, last, leaf, fork, plain, root, leader}
-use Rattle.nodes.specs.Holding.{Content, own_blocks, node_of, Holds, Grown, Counted}
+use Rattle.flexlist.specs.Laid.{Laid, last, leaf, fork, plain, root, leader}
+use Rattle.nodes.specs.Holding.{Content, own_blocks, node_of, Holds, WritesFreeOnly, Counted}
 use Rattle.nodes.specs.Views.{seen, blocks_in, row_in}
 use Rattle.nodes.specs.Walking.{Ready}
 
@@ -70,7 +70,7 @@ module _ {R Q : Type 0} (s : Summing R Q) (c : ℕ → Content R) where
   held_root table (fork e m x y) h = h.0
 
   -- a tree stays where only entries from `used` on are written, and stands below them
-  pub held_on : {before after : List (Node Q)} {used next : ℕ} (t : Laid) → Grown before used after next → root t < used → Holds s c before t → Holds s c after t
+  pub held_on : {before after : List (Node Q)} {used next : ℕ} (t : Laid) → WritesFreeOnly before used after next → root t < used → Holds s c before t → Holds s c after t
   held_on (last e a) g u h = g.kept e u ∙ h
   held_on (leaf e a t) g u h = (g.kept e u ∙ h.0, h.1, held_on t g (omega arith) h.2)
   held_on (fork e m x y) g u h = (g.kept e u ∙ h.0, h.1, h.2, held_on x g (omega arith) h.3, held_on y g (omega arith) h.4)
@@ -117,5 +117,5 @@ module _ {R Q : Type 0} (s : Summing R Q) (c : ℕ → Content R) where
   ready_after k i h = let u = h.under in let b = h.holds.2 in record { holds = h.holds.4; here = i; under = omega arith; counted = counted_after c h.counted }
 
   -- a tree that is ready stays so where the table grows
-  pub ready_on : {before after : List (Node Q)} {used next at : ℕ} (t : Laid) → Grown before used after next → Ready s c before used at t → Ready s c after next at t
+  pub ready_on : {before after : List (Node Q)} {used next at : ℕ} (t : Laid) → WritesFreeOnly before used after next → Ready s c before used at t → Ready s c after next at t
   ready_on t g h = let u = h.under in let m = g.more in record { holds = held_on s c t g h.under h.holds; here = h.here; under = omega arith; counted = h.counted }

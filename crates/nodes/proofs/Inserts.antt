@@ -8,8 +8,8 @@ use Rattle.summary.specs.Summing.{Summing}
 use Rattle.nodes.specs.declared.node.Node.{Node}
 use Rattle.nodes.specs.declared.node.Block.{Block}
 use Rattle.nodes.specs.declared.node.Shape.TheVariants.{Leaf, Fork}
-use Rattle.laid.specs.Laid.{Laid, last, leaf, fork, plain}
-use Rattle.nodes.specs.Holding.{Grown}
+use Rattle.flexlist.specs.Laid.{Laid, last, leaf, fork, plain}
+use Rattle.nodes.specs.Holding.{WritesFreeOnly}
 use Rattle.nodes.specs.Views.{seen, blocks_in, kept_in}
 use Rattle.nodes.specs.Making.{LeafWritten, ForkWritten}
 use Rattle.nodes.specs.Walking.{CountedTo}
@@ -110,19 +110,19 @@ module _ {R Q : Type 0} (s : Summing R Q) (before : List (Node Q)) {used at : �
       (λ room. lay_leaf s c before a (insert_at n level y p) (rest c n k y p ready i (room_leaf s c _ room)) w (as_kept s c q old) size room))
 
   pub insert_below : {mid after : List (Node Q)} {m i j blocks r v next : ℕ} → Some (Fork m i j) ≡ seen at (slice_get before at) → blocks ≡ blocks_in (slice_get before i) → upto ≤ blocks → level < m
-      → Grown before used mid v → Inserted s before used i upto block mid r v level → length mid ≡ length before
+      → WritesFreeOnly before used mid v → Inserted s before used i upto block mid r v level → length mid ≡ length before
       → ForkWritten s mid v m r j after next → Inserted s before used at upto block after v next level
-  insert_below {mid} {after} {m} {v = v} {next = next} see b u z grown part size w c n k =
+  insert_below {mid} {after} {m} {v = v} {next = next} see b u z free_only part size w c n k =
       walk_below s c (insert_at n level) upto see b u
       (λ e x y p low below behind _ _ i.
       subst (Laying s c before used after v next) (sym (insert_below_is n level e m x y p low z))
-      (λ room. lay_fork s c before m (insert_at n level x p) (keep y) (part c n k x p below i (room_below s c _ _ room)) (grown_none mid v) (lay_kept s c y (ready_on s c y grown behind)) w size room))
+      (λ room. lay_fork s c before m (insert_at n level x p) (keep y) (part c n k x p below i (room_below s c _ _ room)) (grown_none mid v) (lay_kept s c y (ready_on s c y free_only behind)) w size room))
 
   pub insert_after : {mid after : List (Node Q)} {m i j blocks r v next : ℕ} → Some (Fork m i j) ≡ seen at (slice_get before at) → blocks ≡ blocks_in (slice_get before i) → blocks < upto → level ≤ m
-      → Grown before used mid v → Inserted s before used j (upto - blocks) block mid r v level → length mid ≡ length before
+      → WritesFreeOnly before used mid v → Inserted s before used j (upto - blocks) block mid r v level → length mid ≡ length before
       → ForkWritten s mid v m i r after next → Inserted s before used at upto block after v next level
-  insert_after {mid} {after} {m} {v = v} {next = next} see b u z grown part size w c n k =
+  insert_after {mid} {after} {m} {v = v} {next = next} see b u z free_only part size w c n k =
       walk_after s c (insert_at n level) upto see b u
       (λ e x y p high below behind _ _ i.
       subst (Laying s c before used after v next) (sym (insert_after_is n level e m x y p high z))
-      (λ room. lay_fork s c before m (keep x) (insert_at n level y (p - leaves (plain x))) (lay_kept s c x below) grown (part c n k y _ behind i (room_beside s c x _ room)) w size room))
+      (λ room. lay_fork s c before m (keep x) (insert_at n level y (p - leaves (plain x))) (lay_kept s c x below) free_only (part c n k y _ behind i (room_beside s c x _ room)) w size room))

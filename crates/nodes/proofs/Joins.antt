@@ -8,8 +8,8 @@ use Rattle.nodes.specs.declared.node.Node.{Node}
 use Rattle.nodes.specs.declared.node.Block.{Block}
 use Rattle.nodes.specs.declared.node.Shape.{Shape}
 use Rattle.nodes.specs.declared.node.Shape.TheVariants.{Leaf, Fork}
-use Rattle.laid.specs.Laid.{Laid, last, leaf, fork, root}
-use Rattle.nodes.specs.Holding.{Content, Grown}
+use Rattle.flexlist.specs.Laid.{Laid, last, leaf, fork, root}
+use Rattle.nodes.specs.Holding.{Content, WritesFreeOnly}
 use Rattle.nodes.specs.Views.{seen, kept_in}
 use Rattle.nodes.specs.Making.{LeafWritten, ForkWritten}
 use Rattle.nodes.specs.Walking.{Ready}
@@ -85,31 +85,31 @@ module _ {R Q : Type 0} (s : Summing R Q) (before : List (Node Q)) {used first s
       (λ e a x' old ready _ room. lay_leaf s c before a (joined x' (leaf f d t)) (part c x' (leaf f d t) ready k (room_leaf s c _ room)) w (as_kept s c z old) size room))
 
   pub merge_fork : {mid after : List (Node Q)} {m i o b' l' j r v next : ℕ} → Some (Leaf b' l' (Some j)) ≡ seen second (slice_get before second) → Some (Fork m i o) ≡ seen first (slice_get before first)
-      → Grown before used mid v → Merged s before used o second mid r v → length mid ≡ length before
+      → WritesFreeOnly before used mid v → Merged s before used o second mid r v → length mid ≡ length before
       → ForkWritten s mid v m i r after next → Merged s before used first second after v next
   unfolding joined joined_fork
-  merge_fork {after = after} {m = m} {v = v} {next = next} see' see grown part size w c x y h k =
+  merge_fork {after = after} {m = m} {v = v} {next = next} see' see free_only part size w c x y h k =
       at_followed s c (λ y. Laying s c before used after v next (joined x y)) y see' k
       (λ f d t _ _ k.
       at_forked s c (λ x. Laying s c before used after v next (joined x (leaf f d t))) x see h
-      (λ e x₁ x₂ below behind _ room. lay_fork s c before m (keep x₁) (joined x₂ (leaf f d t)) (lay_kept s c x₁ below) grown (part c x₂ (leaf f d t) behind k (room_beside s c x₁ _ room)) w size room))
+      (λ e x₁ x₂ below behind _ room. lay_fork s c before m (keep x₁) (joined x₂ (leaf f d t)) (lay_kept s c x₁ below) free_only (part c x₂ (leaf f d t) behind k (room_beside s c x₁ _ room)) w size room))
 
   pub merge_past : {mid after : List (Node Q)} {m i o n i' o' r v next : ℕ} → Some (Fork n i' o') ≡ seen second (slice_get before second) → Some (Fork m i o) ≡ seen first (slice_get before first) → n ≤ m
-      → Grown before used mid v → Merged s before used o second mid r v → length mid ≡ length before
+      → WritesFreeOnly before used mid v → Merged s before used o second mid r v → length mid ≡ length before
       → ForkWritten s mid v m i r after next → Merged s before used first second after v next
-  merge_past {after = after} {m = m} {n = n} {v = v} {next = next} see' see high grown part size w c x y h k =
+  merge_past {after = after} {m = m} {n = n} {v = v} {next = next} see' see high free_only part size w c x y h k =
       at_forked s c (λ y. Laying s c before used after v next (joined x y)) y see' k
       (λ f y₁ y₂ _ _ k.
       at_forked s c (λ x. Laying s c before used after v next (joined x (fork f n y₁ y₂))) x see h
       (λ e x₁ x₂ below behind _.
       subst (Laying s c before used after v next) (sym (joined_past_is e m x₁ x₂ f n y₁ y₂ high))
-      (λ room. lay_fork s c before m (keep x₁) (joined x₂ (fork f n y₁ y₂)) (lay_kept s c x₁ below) grown (part c x₂ (fork f n y₁ y₂) behind k (room_beside s c x₁ _ room)) w size room)))
+      (λ room. lay_fork s c before m (keep x₁) (joined x₂ (fork f n y₁ y₂)) (lay_kept s c x₁ below) free_only (part c x₂ (fork f n y₁ y₂) behind k (room_beside s c x₁ _ room)) w size room)))
 
   pub merge_under : {mid after : List (Node Q)} {n i o r v next : ℕ} → Some (Fork n i o) ≡ seen second (slice_get before second) → ((m i o : ℕ) → Some (Fork m i o) ≡ seen first (slice_get before first) → m < n)
-      → Grown before used mid v → Merged s before used first i mid r v → length mid ≡ length before
+      → WritesFreeOnly before used mid v → Merged s before used first i mid r v → length mid ≡ length before
       → ForkWritten s mid v n r o after next → Merged s before used first second after v next
-  merge_under {mid} {after} {n = n} {v = v} {next = next} see' low grown part size w c x y h k =
+  merge_under {mid} {after} {n = n} {v = v} {next = next} see' low free_only part size w c x y h k =
       at_forked s c (λ y. Laying s c before used after v next (joined x y)) y see' k
       (λ f y₁ y₂ below behind _.
       subst (Laying s c before used after v next) (sym (joined_under_is x f n y₁ y₂ (lower_seen s c n low x h)))
-      (λ room. lay_fork s c before n (joined x y₁) (keep y₂) (part c x y₁ h below (room_below s c _ _ room)) (grown_none mid v) (lay_kept s c y₂ (ready_on s c y₂ grown behind)) w size room))
+      (λ room. lay_fork s c before n (joined x y₁) (keep y₂) (part c x y₁ h below (room_below s c _ _ room)) (grown_none mid v) (lay_kept s c y₂ (ready_on s c y₂ free_only behind)) w size room))

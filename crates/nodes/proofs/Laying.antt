@@ -5,8 +5,8 @@ use Rattle.flexlist.specs.Building.{Plan, keep, new_last, new_leaf, new_fork, ma
 use Rattle.summary.specs.Summing.{Summing}
 use Rattle.nodes.specs.declared.node.Node.{Node}
 use Rattle.nodes.specs.declared.node.Block.{Block}
-use Rattle.laid.specs.Laid.{Laid, root, lay}
-use Rattle.nodes.specs.Holding.{Content, fork_node, node_of, Holds, Grown}
+use Rattle.flexlist.specs.Laid.{Laid, root, lay}
+use Rattle.nodes.specs.Holding.{Content, fork_node, node_of, Holds, WritesFreeOnly}
 use Rattle.nodes.specs.Making.{LeafOf, LeafWritten, ForkWritten}
 use Rattle.nodes.specs.Walking.{Ready, Room, LaidOut}
 use Rattle.nodes.proofs.Held.{held_root, held_on}
@@ -65,14 +65,14 @@ module _ {R Q : Type 0} (s : Summing R Q) (c : ℕ → Content R) where
       let there = w.there (omega arith) (c a) k (Some (root t, node_of s c t)) (sym p.here, follows) in
       let end = there.1 in
       record {
-        holds = (ap (slice_get after) (sym up) ∙ there.0, omega arith, held_on s c t w.grown low p.holds);
+        holds = (ap (slice_get after) (sym up) ∙ there.0, omega arith, held_on s c t w.free_only low p.holds);
         here = sym up;
         under = omega arith;
         used_up = omega arith;
       }
 
   -- a new fork over two trees, the second laid after the first
-  pub lay_fork : (before : List (Node Q)) {mid then after : List (Node Q)} {u v w j k next : ℕ} (m : ℕ) (x y : Plan Laid) → LaidOut s c u x mid j v → Grown mid v then w → LaidOut s c v y then k w
+  pub lay_fork : (before : List (Node Q)) {mid then after : List (Node Q)} {u v w j k next : ℕ} (m : ℕ) (x y : Plan Laid) → LaidOut s c u x mid j v → WritesFreeOnly mid v then w → LaidOut s c v y then k w
       → ForkWritten s then w m j k after next → length then ≡ length before → Room s c before u (new_fork m x y) → LaidOut s c u (new_fork m x y) after w next
   unfolding lay made node_of
   lay_fork before {mid} {then} {after} {u} {v} {w} {j} {k} m x y p g q f size room =
@@ -96,8 +96,8 @@ module _ {R Q : Type 0} (s : Summing R Q) (c : ℕ → Content R) where
           ap (slice_get after) same ∙ there.0 ∙ ap (λ i. Some (fork_node s m (i, node_of s c s₁) (k, node_of s c t₁))) (sym p.here) ∙ ap (λ i. Some (fork_node s m (root s₁, node_of s c s₁) (i, node_of s c t₁))) (sym q'.here),
           omega arith,
           omega arith,
-          held_on s c s₁ f.grown (omega arith) first,
-          held_on s c t₁ f.grown low' q'.holds,
+          held_on s c s₁ f.free_only (omega arith) first,
+          held_on s c t₁ f.free_only low' q'.holds,
         );
         here = same;
         under = omega arith;

@@ -6,7 +6,7 @@ use Rattle.summary.specs.Summing.{Summing}
 use Rattle.nodes.specs.declared.node.Node.{Node}
 use Rattle.nodes.specs.declared.node.Block.{Block}
 use Rattle.nodes.specs.declared.node.Shape.TheVariants.{Leaf, Fork}
-use Rattle.nodes.specs.Holding.{Grown}
+use Rattle.nodes.specs.Holding.{WritesFreeOnly}
 use Rattle.nodes.specs.Views.{seen}
 use Rattle.nodes.specs.Making.{LeafWritten, ForkWritten}
 use Rattle.nodes.specs.Removing.{led_by, Led}
@@ -27,10 +27,10 @@ module _ {R Q : Type 0} (s : Summing R Q) (before : List (Node Q)) {used at : �
       at_followed s c (λ t. Laying s c before used after used next (led_by n t)) t see h (λ _ _ y _ ready _ room. lay_leaf s c before n (keep y) (lay_kept s c y ready) w k refl room)
 
   pub lead_fork : {mid after : List (Node Q)} {m i j r v next : ℕ} → Some (Fork m i j) ≡ seen at (slice_get before at)
-      → Grown before used mid v → Led s before used i block mid r v → length mid ≡ length before
+      → WritesFreeOnly before used mid v → Led s before used i block mid r v → length mid ≡ length before
       → ForkWritten s mid v m r j after next → Led s before used at block after v next
   unfolding led_by
-  lead_fork {mid} {after} {m} {v = v} {next = next} see grown part size w c n k t h =
+  lead_fork {mid} {after} {m} {v = v} {next = next} see free_only part size w c n k t h =
       at_forked s c (λ t. Laying s c before used after v next (led_by n t)) t see h
       (λ _ x y below behind _ room.
-      lay_fork s c before m (led_by n x) (keep y) (part c n k x below (room_below s c _ _ room)) (grown_none mid v) (lay_kept s c y (ready_on s c y grown behind)) w size room)
+      lay_fork s c before m (led_by n x) (keep y) (part c n k x below (room_below s c _ _ room)) (grown_none mid v) (lay_kept s c y (ready_on s c y free_only behind)) w size room)

@@ -3,7 +3,7 @@ use Rattle.std.proofs.Common.{ℕ, zero, suc, ◌-◌, ltb, leb}
 use Rattle.std.proofs.lemmas.Bool.{cond_both}
 use Rattle.flexlist.specs.Building.{Plan}
 use Rattle.flexlist.specs.Nodes.{leaves}
-use Rattle.laid.specs.Laid.{Laid, last, leaf, fork, plain, Part, whole, in_rest, in_below, in_after, KeptParts}
+use Rattle.flexlist.specs.Laid.{Laid, last, leaf, fork, plain, Part, whole, in_rest, in_below, in_after, KeptParts}
 use Rattle.nodes.specs.Changing.{change_at}
 use Rattle.nodes.specs.Cutting.{ends_at, left_at, right_at, cut_at, insert_at}
 use Rattle.nodes.specs.Removing.{led_by, joined_last, joined_leaf, joined_fork, joined, remove_at}

@@ -6,7 +6,7 @@ use Rattle.flexlist.specs.Shape as flat
 use Rattle.flexlist.specs.Nodes.{leaves, to_place}
 use Rattle.flexlist.specs.Building.{Plan, keep, new_leaf, new_fork, at_end, left, right, cut, insert, change}
 use Rattle.flexlist.proofs.Places.{to_place_below, to_place_after}
-use Rattle.laid.specs.Laid.{Laid, last, leaf, fork, plain, plain_plan}
+use Rattle.flexlist.specs.Laid.{Laid, last, leaf, fork, plain, plain_plan}
 use Rattle.nodes.specs.Changing.{change_at}
 use Rattle.nodes.specs.Cutting.{ends_at, left_at, right_at, cut_at, insert_at}
 use Rattle.nodes.proofs.Changes.{change_below_is, change_after_is}

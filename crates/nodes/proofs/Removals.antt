@@ -8,8 +8,8 @@ use Rattle.summary.specs.Summing.{Summing}
 use Rattle.nodes.specs.declared.node.Node.{Node}
 use Rattle.nodes.specs.declared.node.Block.{Block}
 use Rattle.nodes.specs.declared.node.Shape.TheVariants.{Leaf, Fork}
-use Rattle.laid.specs.Laid.{Laid, last, leaf, fork, plain}
-use Rattle.nodes.specs.Holding.{Grown}
+use Rattle.flexlist.specs.Laid.{Laid, last, leaf, fork, plain}
+use Rattle.nodes.specs.Holding.{WritesFreeOnly}
 use Rattle.nodes.specs.Views.{seen, blocks_in, kept_in}
 use Rattle.nodes.specs.Making.{LeafWritten, ForkWritten}
 use Rattle.nodes.specs.Walking.{CountedTo}
@@ -73,13 +73,13 @@ module _ {R Q : Type 0} (s : Summing R Q) (before : List (Node Q)) {used at : �
       i
 
   pub remove_below : {mid after : List (Node Q)} {m i j blocks r v next : ℕ} → Some (Fork m i j) ≡ seen at (slice_get before at) → blocks ≡ blocks_in (slice_get before i) → upto ≤ blocks
-      → Grown before used mid v → Removed s before used i upto mid r v → length mid ≡ length before
+      → WritesFreeOnly before used mid v → Removed s before used i upto mid r v → length mid ≡ length before
       → ForkWritten s mid v m r j after next → Removed s before used at upto after v next
-  remove_below {mid} {after} {m} {v = v} {next = next} see b u grown part size w c =
+  remove_below {mid} {after} {m} {v = v} {next = next} see b u free_only part size w c =
       walk_below s c remove_at upto see b u
       (λ e x y p low below behind _ _ i.
       subst (Laying s c before used after v next) (sym (remove_below_is e m x y p low))
-      (λ room. lay_fork s c before m (remove_at x p) (keep y) (part c x p below i (room_below s c _ _ room)) (grown_none mid v) (lay_kept s c y (ready_on s c y grown behind)) w size room))
+      (λ room. lay_fork s c before m (remove_at x p) (keep y) (part c x p below i (room_below s c _ _ room)) (grown_none mid v) (lay_kept s c y (ready_on s c y free_only behind)) w size room))
 
   pub remove_between : {after : List (Node Q)} {m i j blocks r next : ℕ} → Some (Fork m i j) ≡ seen at (slice_get before at) → blocks ≡ blocks_in (slice_get before i) → blocks < upto → upto - blocks ≡ 1
       → Merged s before used i j after r next → Removed s before used at upto after r next
@@ -91,12 +91,12 @@ module _ {R Q : Type 0} (s : Summing R Q) (before : List (Node Q)) {used at : �
       subst (Laying s c before used after r next) (sym (remove_between_is e m x y p (omega arith))) (merged c x y below behind))
 
   pub remove_after : {mid after : List (Node Q)} {m i j blocks r v next : ℕ} → Some (Fork m i j) ≡ seen at (slice_get before at) → blocks ≡ blocks_in (slice_get before i) → blocks < upto → (upto - blocks ≡ 1 → ⊥)
-      → Grown before used mid v → Removed s before used j (upto - blocks) mid r v → length mid ≡ length before
+      → WritesFreeOnly before used mid v → Removed s before used j (upto - blocks) mid r v → length mid ≡ length before
       → ForkWritten s mid v m i r after next → Removed s before used at upto after v next
-  remove_after {mid} {after} {m} {v = v} {next = next} see b u more grown part size w c =
+  remove_after {mid} {after} {m} {v = v} {next = next} see b u more free_only part size w c =
       walk_after s c remove_at upto see b u
       (λ e x y p high below behind h _ i.
       let up = i.1 in
       let solid = h.counted.solid.1 in
       subst (Laying s c before used after v next) (sym (remove_after_is e m x y p (omega arith)))
-      (λ room. lay_fork s c before m (keep x) (remove_at y (p - leaves (plain x))) (lay_kept s c x below) grown (part c y _ behind i (room_beside s c x _ room)) w size room))
+      (λ room. lay_fork s c before m (keep x) (remove_at y (p - leaves (plain x))) (lay_kept s c x below) free_only (part c y _ behind i (room_beside s c x _ room)) w size room))

@@ -2,7 +2,7 @@
 use Rattle.std.proofs.Common.{◌≡◌, ℕ, zero, suc, ◌+◌, ◌<◌, ◌≤◌, List, [], ◌∷◌, length, set, Some, Option, refl, ap, ap₂, ◌∙◌, ⊎_elim, arith}
 use Rattle.std.specs.List.{slice_get}
 use Rattle.std.proofs.lemmas.Bool.{cases_lt}
-use Rattle.nodes.specs.Holding.{Grown, Bounds, capacity}
+use Rattle.nodes.specs.Holding.{WritesFreeOnly, Bounds, capacity}
 
 module _ {A : Type 0} where
   pub nth_set_same : (xs : List A) (k : ℕ) (x : A) → k < length xs → slice_get (set xs k x) k ≡ Some x
@@ -17,18 +17,18 @@ module _ {A : Type 0} where
   nth_set_other (y ∷ ys) (suc k) zero x h = refl
   nth_set_other (y ∷ ys) (suc k) (suc j) x h = nth_set_other ys k j x (λ e. h (ap suc e))
 
-  pub grown_set : (xs : List A) (used : ℕ) (x : A) → Grown xs used (set xs used x) (used + 1)
+  pub grown_set : (xs : List A) (used : ℕ) (x : A) → WritesFreeOnly xs used (set xs used x) (used + 1)
   grown_set xs used x = record {
     more = omega arith;
     kept = λ k h. nth_set_other xs used k x (λ e. absurd (omega arith));
     rest = λ k h. nth_set_other xs used k x (λ e. absurd (omega arith));
   }
 
-  pub grown_none : (xs : List A) (used : ℕ) → Grown xs used xs used
+  pub grown_none : (xs : List A) (used : ℕ) → WritesFreeOnly xs used xs used
   grown_none xs used = record { more = omega arith; kept = λ k h. refl; rest = λ k h. refl }
 
   -- one walk after another
-  pub grown_then : {xs ys zs : List A} {u v w : ℕ} → Grown xs u ys v → Grown ys v zs w → Grown xs u zs w
+  pub grown_then : {xs ys zs : List A} {u v w : ℕ} → WritesFreeOnly xs u ys v → WritesFreeOnly ys v zs w → WritesFreeOnly xs u zs w
   grown_then {u = u} {v = v} {w = w} f g =
       let a = f.more in
       let b = g.more in
@@ -49,7 +49,7 @@ module _ {A : Type 0} where
       ap₂ (λ a l. a ∷ l) same (same_gets xs ys (omega arith) (λ k. f (suc k)))
 
   -- with no free entry a walk changes nothing
-  pub grown_full : {xs ys : List A} {used at root next : ℕ} → Grown xs used ys next → Bounds xs used at root next → length ys ≡ length xs → capacity xs ≤ used → (ys ≡ xs) × (next ≡ used)
+  pub grown_full : {xs ys : List A} {used at root next : ℕ} → WritesFreeOnly xs used ys next → Bounds xs used at root next → length ys ≡ length xs → capacity xs ≤ used → (ys ≡ xs) × (next ≡ used)
   grown_full {xs} {ys} {used} {next = next} g b size full =
       let more = g.more in
       let within = b.within in

@@ -5,7 +5,7 @@ use Rattle.flexlist.specs.Nodes.{leaves}
 use Rattle.summary.specs.Summing.{Summing}
 use Rattle.nodes.specs.declared.node.Node.{Node}
 use Rattle.nodes.specs.declared.node.Block.{Block}
-use Rattle.laid.specs.Laid.{Laid, last, leaf, fork, plain}
+use Rattle.flexlist.specs.Laid.{Laid, last, leaf, fork, plain}
 use Rattle.nodes.specs.Holding.{Content}
 use Rattle.nodes.specs.Making.{LeafOf}
 use Rattle.nodes.specs.Walking.{Walked}

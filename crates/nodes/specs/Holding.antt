@@ -3,10 +3,10 @@ use Rattle.std.specs.Prelude.{◌≡◌, ℕ, ◌+◌, ◌%◌, ◌^◌, ◌<◌
 use Rattle.std.specs.List.{slice_get}
 use Rattle.summary.specs.Summing.{Summing, summary_of}
 use Rattle.flexlist.specs.Nodes.{leaves}
-pub use Rattle.history.specs.Edits.{Content}
+pub use Rattle.flexlist.specs.Edits.{Content}
 use Rattle.nodes.specs.declared.node.Node.{Node}
 use Rattle.nodes.specs.declared.node.Shape.TheVariants.{Leaf, Fork}
-use Rattle.laid.specs.Laid.{Laid, last, leaf, fork, plain, root, leader}
+use Rattle.flexlist.specs.Laid.{Laid, last, leaf, fork, plain, root, leader}
 
 -- how many blocks a leaf of so many readings counts as: the lead has none
 abbrev pub own_blocks : ℕ → ℕ
@@ -57,7 +57,7 @@ abbrev pub capacity : {A : Type 0} → List A → ℕ
 capacity table = min 60000 (length table)
 
 -- what a walk left of a table: entries below `used` and from `next` on stay
-pub record Grown {A : Type 0} (before : List A) (used : ℕ) (after : List A) (next : ℕ) : Type 0 where
+pub record WritesFreeOnly {A : Type 0} (before : List A) (used : ℕ) (after : List A) (next : ℕ) : Type 0 where
   pub more : used ≤ next
   pub kept : (k : ℕ) → k < used → slice_get after k ≡ slice_get before k
   pub rest : (k : ℕ) → next ≤ k → slice_get after k ≡ slice_get before k

@@ -5,3 +5,4 @@ pub mod Walking
 pub mod Changing
 pub mod Cutting
 pub mod Removing
+pub mod Worked

@@ -1,12 +1,12 @@
 -- What a walk sees at an entry, what it writes, and what a write leaves. Assumes nothing.
-use Rattle.std.specs.Prelude.{◌≡◌, ℕ, ◌+◌, ◌^◌, ◌<◌, ◌≤◌, min, max, Bool, true, cond, ◌&&◌, List, length, Some, None, Option, nat_lt}
+use Rattle.std.specs.Prelude.{◌≡◌, ℕ, ◌+◌, ◌<◌, ◌≤◌, min, max, Bool, true, cond, ◌&&◌, List, length, Some, None, Option, nat_lt}
 use Rattle.std.specs.List.{slice_get}
 use Rattle.summary.specs.Summing.{Summing}
 use Rattle.nodes.specs.declared.node.Node.{Node}
 use Rattle.nodes.specs.declared.node.Block.{Block}
 use Rattle.nodes.specs.declared.node.Shape.{Shape}
 use Rattle.nodes.specs.declared.node.Shape.TheVariants.{Leaf, Fork}
-use Rattle.nodes.specs.Holding.{Grown, capacity}
+use Rattle.nodes.specs.Holding.{WritesFreeOnly, capacity}
 
 -- whether the parts of a shape stand below entry e
 abbrev pub parts_below : ℕ → Shape → Bool
@@ -44,6 +44,6 @@ kept_in s number len entry = record { number = number; length = len; row = row_i
 
 -- A node written at the entry `used`: the table grew by it, where there is room and a next entry has a number; else nothing is counted.
 pub record Wrote {Q : Type 0} (before : List (Node Q)) (used : ℕ) (node : Node Q) (after : List (Node Q)) (next : ℕ) : Type 0 where
-  pub grown : Grown before used after next
+  pub free_only : WritesFreeOnly before used after next
   pub one : next ≤ max used (min (used + 1) (capacity before))
   pub there : used < capacity before → (slice_get after used ≡ Some node) × (next ≡ used + 1)

@@ -1,11 +1,11 @@
 -- What a walk that builds a tree needs, and what it leaves. Assumes nothing.
-use Rattle.std.specs.Prelude.{◌≡◌, ℕ, ◌+◌, ◌-◌, ◌^◌, ◌<◌, ◌≤◌, None, List, length}
+use Rattle.std.specs.Prelude.{◌≡◌, ℕ, ◌+◌, ◌-◌, ◌<◌, ◌≤◌, None, List, length}
 use Rattle.std.specs.List.{slice_get}
 use Rattle.flexlist.specs.Building.{Plan, made}
 use Rattle.flexlist.specs.Nodes.{leaves}
 use Rattle.summary.specs.Summing.{Summing}
 use Rattle.nodes.specs.declared.node.Node.{Node}
-use Rattle.laid.specs.Laid.{Laid, plain, root, leader, lay}
+use Rattle.flexlist.specs.Laid.{Laid, plain, root, leader, lay}
 use Rattle.nodes.specs.Holding.{Content, Holds, Bounds, AsItWas, capacity, Counted, own_blocks}
 use Rattle.nodes.specs.Views.{seen, blocks_in}
 

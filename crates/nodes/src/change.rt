@@ -1,5 +1,5 @@
 // A block of a tree changed: its path is written anew.
-ghost use Rattle.nodes.specs.Holding.{Grown, Bounds};
+ghost use Rattle.nodes.specs.Holding.{WritesFreeOnly, Bounds};
 ghost use Rattle.nodes.specs.Changing.{Changed};
 
 use crate::makers::{write_fork, write_leaf};
@@ -16,7 +16,7 @@ pub(crate) fn change<Q: Summary>(
     upto: u32,
     block: &Block<Q>,
 ) -> Built
-    ensures grown { Grown nodes.old used nodes.new result.used }
+    ensures free_only { WritesFreeOnly nodes.old used nodes.new result.used }
     ensures bounds { Bounds nodes.old used at result.root result.used }
     ensures changed { Changed Q.Summary.means nodes.old used at upto block.now nodes.new result.root result.used }
 {

@@ -3,7 +3,7 @@
 // An edit looks first whether the node at its entry counts so many blocks: where it does not, there is no such place, and nothing is written. What it
 // leaves and answers is said of any table; which nodes it writes, of every tree that the table holds at the entry.
 ghost use Rattle.std.specs.Prelude.{◌≡◌, ◌<◌, ◌≤◌, min, nat_le};
-ghost use Rattle.nodes.specs.Holding.{Grown, AsItWas, capacity};
+ghost use Rattle.nodes.specs.Holding.{WritesFreeOnly, AsItWas, capacity};
 ghost use Rattle.nodes.specs.Walking.{AnyTable};
 ghost use Rattle.nodes.specs.Changing.{Changed};
 ghost use Rattle.nodes.specs.Cutting.{Inserted};
@@ -24,7 +24,7 @@ fn is_full(len: usize, used: u32) -> bool
     len.min(CAPACITY) <= used as usize
 }
 
-// Writes the tree at an entry with the block given in place of the one that `upto` blocks lead to.
+/// Writes the tree at an entry with the block given in place of the one that `upto` blocks lead to.
 pub fn write_change<Q: Summary>(
     nodes: &mut [Node<Q>],
     used: u32,
@@ -32,7 +32,7 @@ pub fn write_change<Q: Summary>(
     upto: u32,
     block: Block<Q>,
 ) -> Built
-    ensures grown { Grown nodes.old used nodes.new result.used }
+    ensures free_only { WritesFreeOnly nodes.old used nodes.new result.used }
     ensures any { AnyTable nodes.old used at upto nodes.new result.root result.used }
     ensures none { upto ≡ 0 → AsItWas nodes.old used at nodes.new result.root result.used }
     ensures full { capacity nodes.old ≤ used → AsItWas nodes.old used at nodes.new result.root result.used }
@@ -51,7 +51,7 @@ pub fn write_change<Q: Summary>(
     change(nodes, used, at, upto, &block)
 }
 
-// Writes the tree at an entry with the block given, of the level given, after the one that `upto` blocks lead to.
+/// Writes the tree at an entry with the block given, of the level given, after the one that `upto` blocks lead to.
 pub fn write_insert<Q: Summary>(
     nodes: &mut [Node<Q>],
     used: u32,
@@ -60,7 +60,7 @@ pub fn write_insert<Q: Summary>(
     level: u8,
     block: Block<Q>,
 ) -> Built
-    ensures grown { Grown nodes.old used nodes.new result.used }
+    ensures free_only { WritesFreeOnly nodes.old used nodes.new result.used }
     ensures any { AnyTable nodes.old used at upto nodes.new result.root result.used }
     ensures full { capacity nodes.old ≤ used → AsItWas nodes.old used at nodes.new result.root result.used }
     ensures inserted { Inserted Q.Summary.means nodes.old used at upto block
@@ -78,9 +78,9 @@ pub fn write_insert<Q: Summary>(
     insert(nodes, used, at, upto, level, &block)
 }
 
-// Writes the tree at an entry without the block that `upto` blocks lead to.
+/// Writes the tree at an entry without the block that `upto` blocks lead to.
 pub fn write_removal<Q: Summary>(nodes: &mut [Node<Q>], used: u32, at: u32, upto: u32) -> Built
-    ensures grown { Grown nodes.old used nodes.new result.used }
+    ensures free_only { WritesFreeOnly nodes.old used nodes.new result.used }
     ensures any { AnyTable nodes.old used at upto nodes.new result.root result.used }
     ensures none { upto ≡ 0 → AsItWas nodes.old used at nodes.new result.root result.used }
     ensures removed { 0 < upto →

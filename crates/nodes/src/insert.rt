@@ -1,6 +1,6 @@
 // A block put into a tree.
 ghost use Rattle.std.specs.Prelude.{◌≡◌, nat_le, nat_lt};
-ghost use Rattle.nodes.specs.Holding.{Grown, Bounds};
+ghost use Rattle.nodes.specs.Holding.{WritesFreeOnly, Bounds};
 ghost use Rattle.nodes.specs.Cutting.{CutMade, Inserted};
 
 use crate::makers::{write_fork, write_leaf};
@@ -19,7 +19,7 @@ fn cut<Q: Summary>(
     level: u8,
     block: &Block<Q>,
 ) -> Built
-    ensures grown { Grown nodes.old used nodes.new result.used }
+    ensures free_only { WritesFreeOnly nodes.old used nodes.new result.used }
     ensures bounds { Bounds nodes.old used at result.root result.used }
     ensures made { CutMade Q.Summary.means nodes.old used at upto block.now nodes.new result.root result.used level }
 {
@@ -51,7 +51,7 @@ pub(crate) fn insert<Q: Summary>(
     level: u8,
     block: &Block<Q>,
 ) -> Built
-    ensures grown { Grown nodes.old used nodes.new result.used }
+    ensures free_only { WritesFreeOnly nodes.old used nodes.new result.used }
     ensures bounds { Bounds nodes.old used at result.root result.used }
     ensures inserted { Inserted Q.Summary.means nodes.old used at upto block.now nodes.new result.root result.used level }
 {

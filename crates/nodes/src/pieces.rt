@@ -1,6 +1,6 @@
 // The pieces of a tree that is cut after a place.
 ghost use Rattle.std.specs.Prelude.{◌≡◌, ◌==◌};
-ghost use Rattle.nodes.specs.Holding.{Grown, Bounds};
+ghost use Rattle.nodes.specs.Holding.{WritesFreeOnly, Bounds};
 ghost use Rattle.nodes.specs.Cutting.{LeftMade, RightMade};
 
 use crate::makers::{write_fork, write_leaf};
@@ -18,7 +18,7 @@ fn ends_at_cut(blocks: u32, upto: u32) -> bool
 
 // Writes the tree up to the block that `upto` blocks lead to; what ends just there is kept.
 pub(crate) fn left<Q: Summary>(nodes: &mut [Node<Q>], used: u32, at: u32, upto: u32) -> Built
-    ensures grown { Grown nodes.old used nodes.new result.used }
+    ensures free_only { WritesFreeOnly nodes.old used nodes.new result.used }
     ensures bounds { Bounds nodes.old used at result.root result.used }
     ensures made { LeftMade Q.Summary.means nodes.old used at upto nodes.new result.root result.used }
 {
@@ -66,7 +66,7 @@ pub(crate) fn right<Q: Summary>(
     upto: u32,
     block: &Block<Q>,
 ) -> Built
-    ensures grown { Grown nodes.old used nodes.new result.used }
+    ensures free_only { WritesFreeOnly nodes.old used nodes.new result.used }
     ensures bounds { Bounds nodes.old used at result.root result.used }
     ensures made { RightMade Q.Summary.means nodes.old used at upto block.now nodes.new result.root result.used }
 {

@@ -1,6 +1,6 @@
 // A block taken out of a tree.
 ghost use Rattle.std.specs.Prelude.{◌≡◌, nat_lt};
-ghost use Rattle.nodes.specs.Holding.{Grown, Bounds};
+ghost use Rattle.nodes.specs.Holding.{WritesFreeOnly, Bounds};
 ghost use Rattle.nodes.specs.Removing.{Led, Merged, Removed};
 
 use crate::makers::{write_fork, write_leaf};
@@ -11,7 +11,7 @@ use summary::Summary;
 
 // Writes the tree with the block given for its leader.
 fn lead_by<Q: Summary>(nodes: &mut [Node<Q>], used: u32, at: u32, block: &Block<Q>) -> Built
-    ensures grown { Grown nodes.old used nodes.new result.used }
+    ensures free_only { WritesFreeOnly nodes.old used nodes.new result.used }
     ensures bounds { Bounds nodes.old used at result.root result.used }
     ensures led { Led Q.Summary.means nodes.old used at block.now nodes.new result.root result.used }
 {
@@ -40,7 +40,7 @@ fn second_over(first: u8, second: u8) -> bool
 
 // Writes the first tree, then the second without its leader; where the second has no more than its leader, the first is kept.
 fn merge<Q: Summary>(nodes: &mut [Node<Q>], used: u32, first: u32, second: u32) -> Built
-    ensures grown { Grown nodes.old used nodes.new result.used }
+    ensures free_only { WritesFreeOnly nodes.old used nodes.new result.used }
     ensures bounds { Bounds nodes.old used first result.root result.used }
     ensures merged { Merged Q.Summary.means nodes.old used first second nodes.new result.root result.used }
 {
@@ -109,7 +109,7 @@ fn merge<Q: Summary>(nodes: &mut [Node<Q>], used: u32, first: u32, second: u32) 
 
 // Writes the tree without the block that `upto` blocks lead to.
 pub(crate) fn remove<Q: Summary>(nodes: &mut [Node<Q>], used: u32, at: u32, upto: u32) -> Built
-    ensures grown { Grown nodes.old used nodes.new result.used }
+    ensures free_only { WritesFreeOnly nodes.old used nodes.new result.used }
     ensures bounds { Bounds nodes.old used at result.root result.used }
     ensures removed { Removed Q.Summary.means nodes.old used at upto nodes.new result.root result.used }
 {

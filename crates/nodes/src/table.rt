@@ -7,7 +7,7 @@ use crate::node::{Block, Node, Shape};
 use crate::walks::Built;
 use summary::Summary;
 
-// The node at an entry.
+/// The node at an entry.
 pub fn entry<Q: Copy>(nodes: &[Node<Q>], at: u32) -> Option<Node<Q>>
     ensures { result ≡ slice_get nodes.now at }
 {
@@ -24,7 +24,7 @@ fn parts_below(at: u32, shape: Shape) -> bool
     }
 }
 
-// What a walk sees at an entry: nothing where the entry is not there or its parts do not stand below it.
+/// What a walk sees at an entry: nothing where the entry is not there or its parts do not stand below it.
 pub fn view<Q: Copy>(nodes: &[Node<Q>], at: u32) -> Option<Shape>
     ensures { result ≡ seen at (slice_get nodes.now at) }
 {
@@ -32,21 +32,21 @@ pub fn view<Q: Copy>(nodes: &[Node<Q>], at: u32) -> Option<Shape>
     parts_below(at, shape).then_some(shape)
 }
 
-// How many blocks the node at an entry counts.
+/// How many blocks the node at an entry counts.
 pub fn blocks_in<Q: Copy>(nodes: &[Node<Q>], at: u32) -> u32
     ensures { result ≡ blocks_in (slice_get nodes.now at) }
 {
     entry(nodes, at).map_or(0, |node| node.blocks)
 }
 
-// How many readings the node at an entry counts.
+/// How many readings the node at an entry counts.
 pub fn readings_in<Q: Copy>(nodes: &[Node<Q>], at: u32) -> u32
     ensures { result ≡ readings_in (slice_get nodes.now at) }
 {
     entry(nodes, at).map_or(0, |node| node.readings)
 }
 
-// The block of a leaf's entry, of the number and length that are seen there: the node keeps the summary of its row.
+/// The block of a leaf's entry, of the number and length that are seen there: the node keeps the summary of its row.
 pub fn kept_block<Q: Summary>(nodes: &[Node<Q>], at: u32, number: u32, length: u32) -> Block<Q>
     ensures { result ≡ kept_in Q.Summary.means number length (slice_get nodes.now at) }
 {
@@ -58,7 +58,7 @@ pub fn kept_block<Q: Summary>(nodes: &[Node<Q>], at: u32, number: u32, length: u
     }
 }
 
-// Writes an entry of a slice, if the slice has it.
+/// Writes an entry of a slice, if the slice has it.
 pub fn put<T: Copy>(entries: &mut [T], at: usize, entry: T)
     ensures { entries.new ≡ slice_set entries.old at entry }
 {
@@ -68,7 +68,7 @@ pub fn put<T: Copy>(entries: &mut [T], at: usize, entry: T)
     }
 }
 
-// The most entries of a table that are used.
+/// The most entries of a table that are used.
 pub const CAPACITY: usize = 60_000;
 
 // Writes a node at the next free entry; where there is no room, nothing is written, and that entry stays the next.

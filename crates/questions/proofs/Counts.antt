@@ -5,7 +5,7 @@ use Rattle.flexlist.specs.Shape.{Tree}
 use Rattle.flexlist.specs.Nodes.{Path, end, stop, on, below, after, nodes, nodes_of_both, leaves}
 use Rattle.summary.specs.Summing.{Summing}
 use Rattle.nodes.specs.declared.node.Node.{Node}
-use Rattle.laid.specs.Laid.{Laid, plain, leader}
+use Rattle.flexlist.specs.Laid.{Laid, plain, leader}
 use Rattle.nodes.specs.Holding.{Content, own_blocks, Counted}
 use Rattle.nodes.specs.Views.{blocks_in}
 use Rattle.nodes.proofs.Held.{leaves_some, blocks_held}

@@ -4,7 +4,7 @@ use Rattle.std.specs.List.{slice_get}
 use Rattle.std.proofs.lemmas.Bool.{cases_lt}
 use Rattle.summary.specs.Summing.{Summing}
 use Rattle.nodes.specs.declared.node.Node.{Node}
-use Rattle.laid.specs.Laid.{Laid, plain, leader}
+use Rattle.flexlist.specs.Laid.{Laid, plain, leader}
 use Rattle.nodes.specs.Holding.{Content, own_blocks, Counted}
 use Rattle.nodes.specs.Views.{blocks_in, readings_in}
 use Rattle.nodes.specs.Walking.{CountedTo}

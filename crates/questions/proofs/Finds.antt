@@ -9,7 +9,7 @@ use Rattle.flexlist.specs.Nodes.{nodes, leaves, identities, to_place}
 use Rattle.summary.specs.Summing.{Summing}
 use Rattle.nodes.specs.declared.node.Node.{Node}
 use Rattle.nodes.specs.declared.node.Shape.TheVariants.{Leaf, Fork}
-use Rattle.laid.specs.Laid.{Laid, last, leaf, fork, plain}
+use Rattle.flexlist.specs.Laid.{Laid, last, leaf, fork, plain}
 use Rattle.nodes.specs.Holding.{Content}
 use Rattle.nodes.specs.Views.{seen, readings_in}
 use Rattle.nodes.proofs.Held.{leaves_some}

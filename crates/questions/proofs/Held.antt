@@ -5,7 +5,7 @@ use Rattle.summary.specs.Summing.{Summing}
 use Rattle.nodes.specs.declared.node.Node.{Node}
 use Rattle.nodes.specs.declared.node.Shape.{Shape}
 use Rattle.nodes.specs.declared.node.Shape.TheVariants.{Leaf, Fork}
-use Rattle.laid.specs.Laid.{Laid, last, leaf, fork}
+use Rattle.flexlist.specs.Laid.{Laid, last, leaf, fork}
 use Rattle.nodes.specs.Holding.{Content, node_of}
 use Rattle.nodes.specs.Views.{seen, row_in, kept_in}
 use Rattle.nodes.specs.Making.{LeafOf}

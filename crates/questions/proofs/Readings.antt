@@ -8,7 +8,7 @@ use Rattle.flexlist.proofs.Shape.{flex_identities}
 use Rattle.summary.specs.Summing.{Summing, Lawful, summary_of}
 use Rattle.summary.proofs.Rows.{cut_anywhere}
 use Rattle.nodes.specs.declared.node.Node.{Node}
-use Rattle.laid.specs.Laid.{Laid, last, leaf, fork, plain}
+use Rattle.flexlist.specs.Laid.{Laid, last, leaf, fork, plain}
 use Rattle.nodes.specs.Holding.{Content, node_of}
 use Rattle.nodes.specs.Views.{readings_in}
 use Rattle.questions.specs.Readings.{in_order, rows_of, readings_of, Small, Stands}

@@ -6,7 +6,7 @@ use Rattle.flexlist.specs.Nodes.{leaves}
 use Rattle.store.specs.Interface.{reading_at}
 use Rattle.summary.specs.Summing.{Summing}
 use Rattle.nodes.specs.declared.node.Node.{Node}
-use Rattle.laid.specs.Laid.{Laid, last, leaf, fork, plain}
+use Rattle.flexlist.specs.Laid.{Laid, last, leaf, fork, plain}
 use Rattle.nodes.specs.Holding.{Content}
 use Rattle.questions.specs.Storing.{Stored, AllStored}
 use Rattle.questions.proofs.Rows.{stored_at, nth_there}

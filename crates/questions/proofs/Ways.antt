@@ -8,7 +8,7 @@ use Rattle.flexlist.proofs.Places.{to_place_below, to_place_after}
 use Rattle.summary.specs.Summing.{Summing}
 use Rattle.nodes.specs.declared.node.Node.{Node}
 use Rattle.nodes.specs.declared.node.Shape.TheVariants.{Leaf, Fork}
-use Rattle.laid.specs.Laid.{Laid, leaf, plain}
+use Rattle.flexlist.specs.Laid.{Laid, leaf, plain}
 use Rattle.nodes.specs.Holding.{Content, Counted}
 use Rattle.nodes.specs.Views.{seen, blocks_in}
 use Rattle.nodes.specs.Walking.{CountedTo}

@@ -4,7 +4,7 @@ use Rattle.std.specs.List.{slice_get}
 use Rattle.flexlist.specs.Nodes.{identities, leaves, nodes, to_place}
 use Rattle.summary.specs.Summing.{Summing}
 use Rattle.nodes.specs.declared.node.Node.{Node}
-use Rattle.laid.specs.Laid.{Laid, plain}
+use Rattle.flexlist.specs.Laid.{Laid, plain}
 use Rattle.nodes.specs.Holding.{Content}
 use Rattle.questions.specs.Storing.{AllStored}
 use Rattle.questions.specs.declared.found.Found.{Found}

@@ -3,7 +3,7 @@ use Rattle.std.specs.Prelude.{◌≡◌, ℕ, suc, ◌+◌, ◌^◌, ◌<◌, Li
 use Rattle.flexlist.specs.Nodes.{nodes, nodes_of_both, leaves, to_place}
 use Rattle.summary.specs.Summing.{Summing}
 use Rattle.nodes.specs.declared.node.Node.{Node}
-use Rattle.laid.specs.Laid.{Laid, plain}
+use Rattle.flexlist.specs.Laid.{Laid, plain}
 use Rattle.nodes.specs.Holding.{Content, Counted}
 use Rattle.nodes.specs.Walking.{CountedTo}
 use Rattle.questions.specs.Readings.{Stands}

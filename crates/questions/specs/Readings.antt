@@ -3,7 +3,7 @@ use Rattle.std.specs.Prelude.{◌≡◌, ℕ, suc, ◌-◌, ◌^◌, ◌<◌, co
 use Rattle.flexlist.specs.Nodes.{identities, leaves}
 use Rattle.summary.specs.Summing.{Summing}
 use Rattle.nodes.specs.declared.node.Node.{Node}
-use Rattle.laid.specs.Laid.{Laid, plain, root}
+use Rattle.flexlist.specs.Laid.{Laid, plain, root}
 use Rattle.nodes.specs.Holding.{Content, Holds}
 
 -- rows, one after another

@@ -1,7 +1,7 @@
 -- A tree's blocks in a store's list of rows. Assumes nothing.
 use Rattle.std.specs.Prelude.{◌≡◌, ℕ, ◌<◌, List, length, Some}
 use Rattle.std.specs.List.{slice_get}
-use Rattle.laid.specs.Laid.{Laid, last, leaf, fork}
+use Rattle.flexlist.specs.Laid.{Laid, last, leaf, fork}
 use Rattle.nodes.specs.Holding.{Content}
 
 -- the row that stands in a list of rows under a block's number; the lead, which has no reading, stands in none

@@ -1,6 +1,6 @@
 // What is found of a reading.
 
-// The block that has the reading, its place in that block's row, and how many nodes are on the path to the block.
+/// The block that has the reading, its place in that block's row, and how many nodes are on the path to the block.
 #[derive(Clone, Copy, PartialEq, Eq, Debug)]
 pub struct Found {
     pub block: u32,
@@ -8,7 +8,7 @@ pub struct Found {
     pub path: u32,
 }
 
-// A reading, and how many nodes are on the path to its block.
+/// A reading, and how many nodes are on the path to its block.
 #[derive(Clone, Copy, PartialEq, Eq, Debug)]
 pub struct Answer<R> {
     pub reading: R,

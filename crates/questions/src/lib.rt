@@ -1,8 +1,8 @@
-// The questions that one version's tree answers, by walks over the table that write nothing but a span's output. Every walk ends on any table.
-// A walk takes time in proportion to the paths that it goes; beside that, `span` reads what it copies, and `summary` the rows that its
-// span cuts, two at most.
-// A question looks first at what the node at its entry counts: past that there is nothing, and no walk is begun. So what is answered there, and what
-// an output keeps, is said of any table; what else is answered, of every tree that the table holds at the entry.
+//! The questions that one version's tree answers, by walks over the table that write nothing but a span's output. Every walk ends on any table.
+//! A walk takes time in proportion to the paths that it goes; beside that, `span` reads what it copies, and `summary` the rows that its
+//! span cuts, two at most.
+//! A question looks first at what the node at its entry counts: past that there is nothing, and no walk is begun. So what is answered there, and what
+//! an output keeps, is said of any table; what else is answered, of every tree that the table holds at the entry.
 #![tactic(auto)]
 
 ghost use Rattle.std.specs.Prelude.{◌≡◌, ◌<◌, ◌≤◌, None};
@@ -26,7 +26,7 @@ mod summing;
 
 pub use found::Answer;
 
-// How many nodes are on the path to the block that `upto` blocks lead to; none where there is no such block.
+/// How many nodes are on the path to the block that `upto` blocks lead to; none where there is no such block.
 pub fn path<Q: Summary>(nodes: &[Node<Q>], at: u32, upto: u32) -> Option<u32>
     ensures none { slice_get nodes.now at ≡ None → result ≡ None }
     ensures past { blocks_in (slice_get nodes.now at) < upto → result ≡ None }
@@ -40,7 +40,7 @@ pub fn path<Q: Summary>(nodes: &[Node<Q>], at: u32, upto: u32) -> Option<u32>
     counting::path_walk(nodes, at, upto)
 }
 
-// How many nodes are on the paths to that block and to the one before it, each counted once; none where there are not both.
+/// How many nodes are on the paths to the block that `upto` blocks lead to and to the one before it, each counted once; none where there are not both.
 pub fn paths<Q: Summary>(nodes: &[Node<Q>], at: u32, upto: u32) -> Option<u32>
     ensures none { slice_get nodes.now at ≡ None → result ≡ None }
     ensures past { blocks_in (slice_get nodes.now at) < upto → result ≡ None }
@@ -54,7 +54,7 @@ pub fn paths<Q: Summary>(nodes: &[Node<Q>], at: u32, upto: u32) -> Option<u32>
     counting::paths_walk(nodes, at, upto)
 }
 
-// What was read at a position, with how many nodes lead to the block that has it; none past the end.
+/// What was read at a position, with how many nodes lead to the block that has it; none past the end.
 pub fn reading<S: BlockStore, Q: Summary<Reading = S::Reading>>(
     nodes: &[Node<Q>],
     store: &S,
@@ -75,7 +75,7 @@ pub fn reading<S: BlockStore, Q: Summary<Reading = S::Reading>>(
     })
 }
 
-// Writes the readings a to b − 1 to the output's start; the rest of the output stays, and all of it where there are not so many, or no room.
+/// Writes the readings a to b − 1 to the output's start; the rest of the output stays, and all of it where there are not so many, or no room.
 pub fn span<S: BlockStore, Q: Summary<Reading = S::Reading>>(
     nodes: &[Node<Q>],
     store: &S,
@@ -95,7 +95,7 @@ pub fn span<S: BlockStore, Q: Summary<Reading = S::Reading>>(
     spanning::span_walk(nodes, store, at, a, b, part, 0)
 }
 
-// The summary of the readings a to b − 1, as far as there are such.
+/// The summary of the readings a to b − 1, as far as there are such.
 pub fn summary<S: BlockStore, Q: Summary<Reading = S::Reading>>(
     nodes: &[Node<Q>],
     store: &S,

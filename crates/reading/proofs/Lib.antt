@@ -1,2 +1,3 @@
 pub mod Trips
 pub mod Values
+pub mod Pairs

@@ -7,3 +7,4 @@ pub mod Digits
 pub mod Equal
 pub mod CountReadingLemmas
 pub mod Restored
+pub mod RawRuns

@@ -4,6 +4,7 @@ ghost use Rattle.std.specs.Int.Signed.{mag};
 
 mod kind;
 
+/// A reading of the older sensors: a signed number of 16 bits.
 #[derive(Clone, Copy, PartialEq, Eq, Debug)]
 pub struct Count {
     pub value: i16,

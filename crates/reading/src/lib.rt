@@ -1,5 +1,6 @@
-// What a sensor's reading is: a trait for any kind of reading, and the two kinds that the bench has, counts and single floats.
-// Every call here takes a fixed number of steps.
+//! What a sensor's reading is: a trait for any kind of reading, and the two kinds that the bench has, counts and single floats;
+//! and the counts that a raw run says. Every call takes a fixed number of steps, but for `counts`, which takes as many as there are bytes, and
+//! wants memory.
 #![tactic(auto)]
 
 ghost use Rattle.std.specs.Prelude.{◌≡◌, ℕ, Bool, List, length, ℤ, Decides};
@@ -9,17 +10,19 @@ ghost use Rattle.reading.specs.Kinds.{Decoded};
 mod bytes;
 mod count;
 mod laws;
+mod raw_runs;
 mod single;
 
 pub use count::Count;
 pub use laws::{rank_values, round_trips};
+pub use raw_runs::counts;
 pub use single::Single;
 
-// A kind of reading.
+/// A kind of reading.
 pub trait Reading: Copy + Eq {
-    // The kind's number in a journal's head.
+    /// The kind's number in a journal's head.
     const CODE: u8;
-    // How many bytes one encoded reading takes.
+    /// How many bytes one encoded reading takes.
     const WIDTH: usize;
 
     ghost CODE: { ℕ };
@@ -38,22 +41,24 @@ pub trait Reading: Copy + Eq {
     // The reading that bytes stand for, where they are known to be an encoded reading; other bytes stand for some reading too.
     ghost restored: { List ℕ → Self };
 
+    /// Did the sensor give nothing?
     fn is_missing(&self) -> bool
         ensures { result ≡ missing self.now };
 
+    /// The whole number by which peaks are compared, and nothing else.
     fn rank(&self) -> i64
         ensures { result ≡ ranked self.now };
 
-    // Writes the encoded reading into `out` from `at` on; false, with nothing written, where it does not fit. A bool and no `Result`: there is one way to
-    // fail, and by the project's rule the answer is no.
+    /// Writes the encoded reading into `out` from `at` on; false, with nothing written, where it does not fit. A bool and no `Result`: there is one way to
+    /// fail, and by the project's rule the answer is no.
     fn encode(&self, out: &mut [u8], at: usize) -> bool
         ensures { Written out.old at (bytes self.now) result out.new };
 
-    // The reading whose encoding is exactly `from`; none where no reading has it.
+    /// The reading whose encoding is exactly `from`; none where no reading has it.
     fn decode(from: &[u8]) -> Option<Self>
         ensures { Decoded bytes from.now result };
 
-    // The reading whose encoding `from` is known to be, without a test; some reading where it is none.
+    /// The reading whose encoding `from` is known to be, without a test; some reading where it is none.
     fn restore(from: &[u8]) -> Self
         ensures { result ≡ restored from.now };
 

@@ -5,6 +5,7 @@ ghost use Rattle.reading.specs.Patterns.{canonical};
 mod bits;
 mod kind;
 
+/// A reading of the newer sensors: a single float by its bits, where one value stands for all that is not a number.
 #[derive(Clone, Copy, PartialEq, Eq, Debug)]
 pub struct Single {
     bits: u32,

@@ -1,4 +1,4 @@
-// Reports a journal of counts from standard input, of which the first 32,768 bytes are read.
+//! Reports a journal of counts from standard input, of which the first 32,768 bytes are read.
 #![tactic(auto)]
 
 use report_text::report_stream;

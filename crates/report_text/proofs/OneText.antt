@@ -1,11 +1,6 @@
 -- The report's contract gives one text for one input. Assumes nothing.
-use Rattle.std.proofs.Common.{◌≡◌, ℕ, Bool, true, false, cond, ◌||◌, ◌==◌, List, [], ◌++◌, length, take, Some, None, MatchBool, Result, sym, refl, ap, ap₂, ◌∙◌, subst, of_z, to_z, length-set}
-use Rattle.std.specs.Int.{w16}
-use Rattle.std.proofs.lemmas.Int.{to_z-of_z}
-use Rattle.reading.specs.CountReadingLemmas.{whole, fitting}
-use Rattle.reading.specs.Digits.{two_back, of_two}
-use Rattle.reading.specs.Equal.{count_equal}
-use Rattle.reading.specs.Kinds.{count_bytes}
+use Rattle.std.proofs.Common.{◌≡◌, ℕ, Bool, true, false, cond, ◌||◌, ◌==◌, List, [], ◌++◌, length, take, Some, None, MatchBool, Result, sym, refl, ap, ap₂, ◌∙◌, subst, length-set}
+use Rattle.reading.specs.CountReadingLemmas.{count_told}
 use Rattle.reading.specs.declared.count.Count.{Count}
 use Rattle.summary.specs.declared.peak.Peak.{Peak}
 use Rattle.summary.specs.Summing.{Summing}
@@ -24,12 +19,6 @@ use Rattle.journal.proofs.LoadSame.{SameLoads, loads_same}
 use Rattle.journal.proofs.EditSame.{AlikeArchives, edits_same}
 use Rattle.intake_bytes.specs.Intake.{counts_coding}
 use Rattle.report_text.specs.Report.{peaks, table_text, fault_text, OneText}
-
--- counts with the same bytes are one
-count_told : (x y : Count) → count_bytes x.value ≡ count_bytes y.value → x ≡ y
-count_told x y e =
-    let bits : of_z w16 x.value ≡ of_z w16 y.value = sym (two_back _ (whole x)) ∙ ap of_two e ∙ two_back _ (whole y) in
-    count_equal x y (sym (to_z-of_z w16 _ (fitting x)) ∙ ap (to_z w16) bits ∙ to_z-of_z w16 _ (fitting y))
 
 -- how long the tables are that have begun, and how many versions they have
 record Sizes {Q : Type 0} (empty : Bool) (nodes : List (Node Q)) (versions : List Version) (begun : Begun) (begun_nodes : List (Node Q)) (begun_versions : List Version) : Type 0 where

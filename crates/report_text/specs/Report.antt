@@ -12,7 +12,7 @@ use Rattle.store.specs.declared.row.RowStore.{RowStore}
 use Rattle.store.specs.RowStores.{row_kept}
 use Rattle.store.specs.Keeping.{Keeping, row_keeping}
 use Rattle.store.specs.Stores.{Empty}
-use Rattle.history.specs.Edits.{Edit, list_of}
+use Rattle.flexlist.specs.Edits.{Edit, list_of}
 use Rattle.nodes.specs.declared.node.Node.{Node}
 use Rattle.archive.specs.declared.version.Version.{Version}
 use Rattle.archive.specs.Asking.{all_readings}

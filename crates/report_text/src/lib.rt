@@ -1,4 +1,4 @@
-// The report of a journal of counts: a line for each version of the archive that it gives, and one for the fault that stopped loading.
+//! The report of a journal of counts: a line for each version of the archive that it gives, and one for the fault that stopped loading.
 #![tactic(auto)]
 
 ghost use Rattle.std.specs.Prelude.{IfOk, string_bytes};
@@ -15,7 +15,7 @@ mod tables;
 pub use laws::one_text;
 pub use stream::report_stream;
 
-// The text of the first 32,768 bytes.
+/// The text of the first 32,768 bytes.
 pub fn report(heap: Global, bytes: &[u8]) -> Result<String, AllocError>
     ensures { IfOk result (λ s. Reported bytes.now (string_bytes s)) }
 {

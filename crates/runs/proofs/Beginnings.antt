@@ -2,7 +2,7 @@
 use Rattle.store.specs.Keeping.{Keeping}
 use Rattle.std.proofs.Common.{◌≡◌, ℕ, zero, suc, min, Bool, true, false, cond, ◌||◌, eqb, List, [], length, take, drop, Some, None, MatchBool, sym, ap, ◌∙◌, subst, arith}
 use Rattle.summary.specs.Summing.{Summing, Lawful}
-use Rattle.history.specs.Edits.{lists, list_of}
+use Rattle.flexlist.specs.Edits.{lists, list_of}
 use Rattle.nodes.specs.declared.node.Node.{Node}
 use Rattle.archive.specs.declared.version.Version.{Version}
 use Rattle.archive.specs.declared.begin.Begun.{Begun}

@@ -1,8 +1,8 @@
 -- Calls that do what their contracts say are a run. Assumes nothing.
 use Rattle.store.specs.Keeping.{Keeping}
-use Rattle.std.proofs.Common.{◌≡◌, List, [], ◌∷◌, Some, None, Ok, Err, Option, Result, sym, refl, subst}
+use Rattle.std.proofs.Common.{◌≡◌, List, [], ◌∷◌, Some, None, Ok, Err, Option, Result, sym, subst}
 use Rattle.summary.specs.Summing.{Summing}
-use Rattle.history.specs.Edits.{Edit}
+use Rattle.flexlist.specs.Edits.{Edit}
 use Rattle.archive.specs.declared.fault.EditFault.{EditFault}
 use Rattle.archive.specs.declared.table.Accepted.{Accepted}
 use Rattle.archive.specs.Calling.{Archive, Asked, Answered, Standing, EditKept, EditAccepted, EditTold, RowRefused, asked_refusal}

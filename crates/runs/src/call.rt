@@ -1,6 +1,8 @@
-// A call, without references: it names its row by where it stands in the readings that come beside it.
+// Calls of a list.
 
-// No slice in place of `from` and `len`: a row that does not lie in the readings is part of the promise, and is answered as one without readings.
+/// A call, without references: it names its row by where it stands in the readings that come beside it. No slice in
+/// place of `from` and `len`: a row that does not lie in the readings is part of the promise, and is answered as one
+/// without readings.
 #[derive(Clone, Copy, PartialEq, Eq, Debug)]
 pub enum Call {
     Insert {
@@ -29,7 +31,7 @@ pub enum Call {
         version: u32,
         position: u32,
     },
-    // A span goes to the output from a place on.
+    /// A span goes to the output from a place on.
     Span {
         version: u32,
         a: u32,

@@ -1,7 +1,7 @@
-// The law over runs: what any calls on an archive answer and leave, one after another, and the call that carries out a list of them. Carrying out a
-// list takes the time of its calls. The two calls are thin over functions with the same promise: those have proofs written by hand, and a fault here
-// is then refused for the fact that fails.
-// `lender`: that the table stays the caller's slice speaks of two values, so that no invariant of its type can say it.
+//! The law over runs: what any calls on an archive answer and leave, one after another, and the call that carries out a list of them. Carrying out a
+//! list takes the time of its calls. The two calls are thin over functions with the same promise: those have proofs written by hand, and a fault here
+//! is then refused for the fact that fails.
+//! `same_slice`: that the table stays the caller's slice speaks of two values, so that no invariant of its type can say it.
 #![tactic(auto)]
 
 ghost use Rattle.std.specs.Prelude.{◌≡◌, min, length, take, drop};
@@ -25,8 +25,8 @@ pub use laws::runs_lawful;
 pub use ran::Ran;
 pub use reply::Reply;
 
-// Begins an archive in the caller's tables, carries the calls out on it in their order, and writes the reply to each: as many calls as there are places
-// for replies. A call's row stands in `readings`, a span goes to `out`.
+/// Begins an archive in the caller's tables, carries the calls out on it in their order, and writes the reply to each: as many calls as there are places
+/// for replies. A call's row stands in `readings`, a span goes to `out`.
 pub fn carry_out<S: BlockStore, Q: Summary<Reading = S::Reading>>(
     nodes: &mut [Node<Q>],
     versions: &mut [Version],
@@ -43,7 +43,7 @@ pub fn carry_out<S: BlockStore, Q: Summary<Reading = S::Reading>>(
     running::begin_and_carry(nodes, versions, store, readings, calls, out, replies)
 }
 
-// Carries calls out on an archive that stands already, and answers how many.
+/// Carries calls out on an archive that stands already, and answers how many.
 pub fn carry_on<S: BlockStore, Q: Summary<Reading = S::Reading>>(
     table: &mut NodeTable<'_, Q>,
     versions: &mut [Version],
@@ -59,7 +59,7 @@ pub fn carry_on<S: BlockStore, Q: Summary<Reading = S::Reading>>(
         readings.now (take result calls.now) (take result replies.new)
         (archive_of table.old versions.old store.old) out.old
         (archive_of table.new versions.new store.new) out.new }
-    ensures lender { table.new.nodes.ghost_name ≡ table.old.nodes.ghost_name }
+    ensures same_slice { table.new.nodes.ghost_name ≡ table.old.nodes.ghost_name }
 {
     running::carry_all(table, versions, store, readings, calls, out, replies)
 }

@@ -2,6 +2,7 @@
 use archive::{Accepted, EditFault, ReadFault};
 use questions::Answer;
 
+/// What a call of a list answers.
 #[derive(Clone, Copy, PartialEq, Eq, Debug)]
 pub enum Reply<R, Q> {
     Edited(Result<Accepted, EditFault>),

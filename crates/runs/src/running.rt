@@ -1,5 +1,5 @@
 // A list of calls, carried out one after another on an archive.
-// `lender`: that the table stays the caller's slice speaks of two values, so that no invariant of its type can say it.
+// `same_slice`: that the table stays the caller's slice speaks of two values, so that no invariant of its type can say it.
 ghost use Rattle.std.specs.Prelude.{◌≡◌, min, length, take, drop};
 ghost use Rattle.archive.specs.Calling.{archive_of};
 ghost use Rattle.runs.specs.Lists.{Carried, CarriedOn};
@@ -29,7 +29,7 @@ pub(crate) fn carry_all<S: BlockStore, Q: Summary<Reading = S::Reading>>(
         readings.now (take result calls.now) (take result replies.new)
         (archive_of table.old versions.old store.old) out.old
         (archive_of table.new versions.new store.new) out.new }
-    ensures lender { table.new.nodes.ghost_name ≡ table.old.nodes.ghost_name }
+    ensures same_slice { table.new.nodes.ghost_name ≡ table.old.nodes.ghost_name }
 {
     let count = calls.len().min(replies.len());
     // No `zip` with the calls: the check then knows nothing of the replies that were written.

@@ -1,5 +1,5 @@
 // One call of a list, carried out on an archive.
-// `lender`: that the table stays the caller's slice speaks of two values, so that no invariant of its type can say it.
+// `same_slice`: that the table stays the caller's slice speaks of two values, so that no invariant of its type can say it.
 ghost use Rattle.std.specs.Prelude.{◌≡◌};
 ghost use Rattle.archive.specs.Calling.{archive_of};
 ghost use Rattle.runs.specs.Lists.{row_named, SpanInto, CarriedOne};
@@ -51,7 +51,7 @@ pub(crate) fn carry_one<S: BlockStore, Q: Summary<Reading = S::Reading>>(
     ensures carried { CarriedOne Q.Summary.means S.BlockStore readings.now call result
         (archive_of table.old versions.old store.old) out.old
         (archive_of table.new versions.new store.new) out.new }
-    ensures lender { table.new.nodes.ghost_name ≡ table.old.nodes.ghost_name }
+    ensures same_slice { table.new.nodes.ghost_name ≡ table.old.nodes.ghost_name }
 {
     match call {
         Call::Insert {

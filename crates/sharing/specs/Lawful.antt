@@ -1,10 +1,10 @@
 -- The layer keeps the laws of a store over every store that does. Assumes nothing.
-use Rattle.std.proofs.Common.{◌≡◌, ℕ, ◌+◌, ◌≤◌, ◌⊎◌, Bool, true, false, cond, ◌&&◌, nat_le, List, [], ◌∷◌, length, Some, None, Ok, Err, Option, Result, sym, refl, ap, ◌∙◌, subst, inl, inr, arith}
+use Rattle.std.proofs.Common.{◌≡◌, ℕ, Bool, true, false, cond, nat_le, List, [], ◌∷◌, length, Some, None, Ok, Err, Option, Result, refl, ap, ◌∙◌, inl, inr, arith}
 use Rattle.std.proofs.Common.{ap₂}
 use Rattle.std.specs.List.{slice_get}
 use Rattle.std.proofs.lemmas.Bool.{and_parts, leb-true}
 use Rattle.store.specs.declared.cause.Cause.{Cause}
-use Rattle.store.specs.Interface.{Put, Taken, Refused, Placed, earlier, added}
+use Rattle.store.specs.Interface.{Put, earlier}
 use Rattle.sharing.specs.declared.recent.Recent.{Recent}
 use Rattle.sharing.specs.declared.sharing.Sharing.{Sharing}
 use Rattle.sharing.specs.Remembering.{remembered, candidates, is_sized, First, Unknown}

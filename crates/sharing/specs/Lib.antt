@@ -1,3 +1,4 @@
 pub mod Remembering
 pub mod Sharings
 pub mod Lawful
+pub mod Piles

@@ -3,6 +3,7 @@ use crate::recent::Recent;
 
 mod layer;
 
+/// A store over a store, which answers a row that went below lately with the block that it already is.
 #[derive(Drop)]
 pub struct Sharing<S> {
     below: S,

@@ -12,7 +12,7 @@ pub struct Directory {
     ghost rises: { rising 0 ends.items ≡ true },
 }
 
-// Where a block stands: its first reading, and the one past its last.
+/// Where a block stands: its first reading, and the one past its last.
 #[derive(Clone, Copy)]
 pub struct Span {
     pub from: u32,

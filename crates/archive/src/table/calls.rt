@@ -9,7 +9,7 @@ ghost use Rattle.archive.specs.Calling.{archive_of, EditKept, EditLaw, ReadingTo
 ghost use Rattle.archive.specs.Calling as asked;
 
 use super::{Accepted, NodeTable};
-use crate::begins::begin_in;
+use crate::begin::begin_in;
 use crate::fault::{EditFault, ReadFault};
 use crate::version::Version;
 use nodes::Node;
@@ -18,13 +18,13 @@ use store::BlockStore;
 use summary::Summary;
 
 impl<'a, Q: Summary> NodeTable<'a, Q> {
-    // Begins an archive in the caller's tables: node 0 is the lead's leaf, version 0 the empty list. In tables of which one has no entry, nothing can be
-    // kept: they stay as they are, and the archive has no version. No store is touched; it may hold rows already.
+    /// Begins an archive in the caller's tables: node 0 is the lead's leaf, version 0 the empty list. In tables of which one has no entry, nothing can be
+    /// kept: they stay as they are, and the archive has no version. No store is touched; it may hold rows already.
     pub fn begin(nodes: &'a mut [Node<Q>], versions: &mut [Version]) -> NodeTable<'a, Q>
         ensures begun { Begin Q.Summary.means nodes.old versions.old
             (record { used = result.used; count = result.count }) result.nodes.now
             versions.new }
-        ensures lender { result.nodes.ghost_name ≡ nodes.entry.ghost_name }
+        ensures same_slice { result.nodes.ghost_name ≡ nodes.entry.ghost_name }
     {
         let begun = begin_in(nodes, versions);
         NodeTable {
@@ -36,21 +36,21 @@ impl<'a, Q: Summary> NodeTable<'a, Q> {
 }
 
 impl<Q: Summary> NodeTable<'_, Q> {
-    // How many nodes are in use.
+    /// How many nodes are in use.
     pub fn used(&self) -> u32
         ensures { result ≡ self.now.used }
     {
         self.used
     }
 
-    // How many versions there are.
+    /// How many versions there are.
     pub fn count(&self) -> u32
         ensures { result ≡ self.now.count }
     {
         self.count
     }
 
-    // Puts a row in at a place of a version, which gives a further version.
+    /// Puts a row in at a place of a version, which gives a further version.
     pub fn insert<S: BlockStore<Reading = Q::Reading>>(
         &mut self,
         versions: &mut [Version],
@@ -66,12 +66,12 @@ impl<Q: Summary> NodeTable<'_, Q> {
         ensures law { EditLaw Q.Summary.means S.BlockStore (archive_of self.old versions.old store.old)
             (asked.Asked.insert base place level row.now) result
             (archive_of self.new versions.new store.new) }
-        ensures lender { self.new.nodes.ghost_name ≡ self.old.nodes.ghost_name }
+        ensures same_slice { self.new.nodes.ghost_name ≡ self.old.nodes.ghost_name }
     {
         self.insert_row(versions, store, base, place, level, row)
     }
 
-    // Puts a row in behind the last block, at level 0.
+    /// Puts a row in behind the last block, at level 0.
     pub fn append<S: BlockStore<Reading = Q::Reading>>(
         &mut self,
         versions: &mut [Version],
@@ -85,12 +85,12 @@ impl<Q: Summary> NodeTable<'_, Q> {
         ensures law { EditLaw Q.Summary.means S.BlockStore (archive_of self.old versions.old store.old)
             (asked.Asked.append base row.now) result
             (archive_of self.new versions.new store.new) }
-        ensures lender { self.new.nodes.ghost_name ≡ self.old.nodes.ghost_name }
+        ensures same_slice { self.new.nodes.ghost_name ≡ self.old.nodes.ghost_name }
     {
         self.append_row(versions, store, base, row)
     }
 
-    // Gives the block at a place another row; its level stays.
+    /// Gives the block at a place another row; its level stays.
     pub fn change<S: BlockStore<Reading = Q::Reading>>(
         &mut self,
         versions: &mut [Version],
@@ -105,12 +105,12 @@ impl<Q: Summary> NodeTable<'_, Q> {
         ensures law { EditLaw Q.Summary.means S.BlockStore (archive_of self.old versions.old store.old)
             (asked.Asked.change base place row.now) result
             (archive_of self.new versions.new store.new) }
-        ensures lender { self.new.nodes.ghost_name ≡ self.old.nodes.ghost_name }
+        ensures same_slice { self.new.nodes.ghost_name ≡ self.old.nodes.ghost_name }
     {
         self.change_row(versions, store, base, place, row)
     }
 
-    // Takes the block at a place out. The store is only read.
+    /// Takes the block at a place out. The store is only read.
     pub fn remove<S: BlockStore<Reading = Q::Reading>>(
         &mut self,
         versions: &mut [Version],
@@ -124,12 +124,12 @@ impl<Q: Summary> NodeTable<'_, Q> {
         ensures law { EditLaw Q.Summary.means S.BlockStore (archive_of self.old versions.old store.now)
             (asked.Asked.removal base place) result
             (archive_of self.new versions.new store.now) }
-        ensures lender { self.new.nodes.ghost_name ≡ self.old.nodes.ghost_name }
+        ensures same_slice { self.new.nodes.ghost_name ≡ self.old.nodes.ghost_name }
     {
         self.remove_block(versions, store, base, place)
     }
 
-    // What was read at a position of a version, and how many nodes lead to the block that has it.
+    /// What was read at a position of a version, and how many nodes lead to the block that has it.
     pub fn reading<S: BlockStore<Reading = Q::Reading>>(
         &self,
         versions: &[Version],
@@ -145,8 +145,8 @@ impl<Q: Summary> NodeTable<'_, Q> {
         self.read_one(versions, store, version, position)
     }
 
-    // Copies what a version has from position a on, up to b and without it, to the output's start, and answers how many readings that are. Further places
-    // of the output keep what they had.
+    /// Copies what a version has from position a on, up to b and without it, to the output's start, and answers how many readings that are. Further places
+    /// of the output keep what they had.
     pub fn span<S: BlockStore<Reading = Q::Reading>>(
         &self,
         versions: &[Version],
@@ -165,7 +165,7 @@ impl<Q: Summary> NodeTable<'_, Q> {
         self.copy_span(versions, store, version, a, b, out)
     }
 
-    // The summary of the readings a to b − 1 of a version.
+    /// The summary of the readings a to b − 1 of a version.
     pub fn summary<S: BlockStore<Reading = Q::Reading>>(
         &self,
         versions: &[Version],

@@ -47,7 +47,7 @@ impl<Q: Summary> NodeTable<'_, Q> {
         ensures law { EditLaw Q.Summary.means S.BlockStore (archive_of self.old versions.old store.old)
             (asked.Asked.insert base place level row.now) result
             (archive_of self.new versions.new store.new) }
-        ensures lender { self.new.nodes.ghost_name ≡ self.old.nodes.ghost_name }
+        ensures same_slice { self.new.nodes.ghost_name ≡ self.old.nodes.ghost_name }
     {
         let used = self.used;
         let count = self.count;
@@ -74,7 +74,7 @@ impl<Q: Summary> NodeTable<'_, Q> {
         ensures law { EditLaw Q.Summary.means S.BlockStore (archive_of self.old versions.old store.old)
             (asked.Asked.append base row.now) result
             (archive_of self.new versions.new store.new) }
-        ensures lender { self.new.nodes.ghost_name ≡ self.old.nodes.ghost_name }
+        ensures same_slice { self.new.nodes.ghost_name ≡ self.old.nodes.ghost_name }
     {
         let from = version_at(versions, self.count, base).ok_or(EditFault::Version)?;
         self.insert_row(versions, store, base, from.blocks, 0, row)
@@ -94,7 +94,7 @@ impl<Q: Summary> NodeTable<'_, Q> {
         ensures law { EditLaw Q.Summary.means S.BlockStore (archive_of self.old versions.old store.old)
             (asked.Asked.change base place row.now) result
             (archive_of self.new versions.new store.new) }
-        ensures lender { self.new.nodes.ghost_name ≡ self.old.nodes.ghost_name }
+        ensures same_slice { self.new.nodes.ghost_name ≡ self.old.nodes.ghost_name }
     {
         let used = self.used;
         let count = self.count;
@@ -118,7 +118,7 @@ impl<Q: Summary> NodeTable<'_, Q> {
         ensures law { EditLaw Q.Summary.means S.BlockStore (archive_of self.old versions.old store.now)
             (asked.Asked.removal base place) result
             (archive_of self.new versions.new store.now) }
-        ensures lender { self.new.nodes.ghost_name ≡ self.old.nodes.ghost_name }
+        ensures same_slice { self.new.nodes.ghost_name ≡ self.old.nodes.ghost_name }
     {
         let used = self.used;
         let count = self.count;

@@ -1,5 +1,5 @@
 // Loading into an archive that begins.
-// `lender`: that the table stays the caller's slice speaks of two values, so that no invariant of its type can say it.
+// `same_slice`: that the table stays the caller's slice speaks of two values, so that no invariant of its type can say it.
 ghost use Rattle.std.specs.Prelude.{◌≡◌};
 ghost use Rattle.archive.specs.Calling.{archive_of};
 ghost use Rattle.journal.specs.Format.{coding};
@@ -22,7 +22,7 @@ pub(crate) fn begin_and_take_in<'a, S: BlockStore, Q: Summary<Reading = S::Readi
     ensures loaded { LoadedFrom Q.Summary.means S.BlockStore (coding S.Reading.Reading.own) nodes.old
         versions.old store.old area.old bytes.now result.answer
         (archive_of result.table versions.new store.new) area.new }
-    ensures lender { result.table.nodes.ghost_name ≡ nodes.entry.ghost_name }
+    ensures same_slice { result.table.nodes.ghost_name ≡ nodes.entry.ghost_name }
 {
     let mut table = NodeTable::begin(nodes, versions);
     let answer = take_in_all(&mut table, versions, store, bytes, area);

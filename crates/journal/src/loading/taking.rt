@@ -1,5 +1,5 @@
 // The edits of a journal, taken into an archive one after another.
-// `lender`: that the table stays the caller's slice speaks of two values, so that no invariant of its type can say it.
+// `same_slice`: that the table stays the caller's slice speaks of two values, so that no invariant of its type can say it.
 ghost use Rattle.std.specs.Prelude.{◌≡◌, ◌<◌, length};
 ghost use Rattle.archive.specs.Calling.{archive_of};
 ghost use Rattle.journal.specs.Format.{coding};
@@ -41,7 +41,7 @@ fn take_in<S: BlockStore, Q: Summary<Reading = S::Reading>>(
     ensures taken { OneTaken Q.Summary.means S.BlockStore (coding S.Reading.Reading.own)
         (archive_of table.old versions.old store.old) area.old bytes.now at result
         (archive_of table.new versions.new store.new) area.new }
-    ensures lender { table.new.nodes.ghost_name ≡ table.old.nodes.ghost_name }
+    ensures same_slice { table.new.nodes.ghost_name ≡ table.old.nodes.ghost_name }
 {
     let Opening { step, count, next } = opening_at(bytes, at, area.len()).map_err(
         |fault| LoadFault { fault, place: at },
@@ -62,7 +62,7 @@ pub(crate) fn take_in_all<S: BlockStore, Q: Summary<Reading = S::Reading>>(
     ensures law { LoadLaw Q.Summary.means S.BlockStore (coding S.Reading.Reading.own)
         (archive_of table.old versions.old store.old) area.old bytes.now result
         (archive_of table.new versions.new store.new) area.new }
-    ensures lender { table.new.nodes.ghost_name ≡ table.old.nodes.ghost_name }
+    ensures same_slice { table.new.nodes.ghost_name ≡ table.old.nodes.ghost_name }
 {
     check_head::<S::Reading>(bytes).map_err(|fault| LoadFault { fault, place: 0 })?;
     // A place that moves on, since a record has no fixed length: only taking it in tells where the next begins.

@@ -1,20 +1,20 @@
 // Counts as a kind of reading: code 1, two bytes. The lowest number says that the sensor gave nothing; the rank is the value.
 ghost use Rattle.std.specs.Prelude.{◌≡◌};
-ghost use Rattle.std.proofs.Common.{refl, sym, ap, ◌∙◌, of_z, to_z};
+ghost use Rattle.std.proofs.Common.{refl, ap, ◌∙◌, to_z};
 ghost use Rattle.reading.specs.Kinds.{count_missing, count_bytes, count_said, Decoded};
 ghost use Rattle.reading.specs.Restoring.{restored_count};
 ghost use Rattle.std.specs.Int.{w16};
 ghost use Rattle.std.proofs.lemmas.Int.{to_z-of_z};
-ghost use Rattle.reading.specs.Digits.{two_back, of_two};
+ghost use Rattle.reading.specs.Digits.{two_back};
 ghost use Rattle.reading.specs.Equal.{count_equal, count_same};
-ghost use Rattle.reading.specs.CountReadingLemmas.{whole, fitting};
+ghost use Rattle.reading.specs.CountReadingLemmas.{whole, fitting, count_told};
 
 use super::Count;
 use crate::Reading;
 use crate::bytes::place;
 
 impl Count {
-    // The count that two bytes say: every pair of bytes says one. No `From`: it is named as the library names it for numbers, the higher byte first.
+    /// The count that two bytes say: every pair of bytes says one. No `From`: it is named as the library names it for numbers, the higher byte first.
     pub fn from_bytes(high: u8, low: u8) -> Count
         ensures { result.value ≡ count_said high low }
     {
@@ -44,9 +44,7 @@ impl Reading for Count {
 
     ghost same = { count_same };
 
-    ghost told = { λ x y e.
-        let bits : of_z w16 x.value ≡ of_z w16 y.value = sym (two_back _ (whole x)) ∙ ap of_two e ∙ two_back _ (whole y) in
-        count_equal x y (sym (to_z-of_z w16 _ (fitting x)) ∙ ap (to_z w16) bits ∙ to_z-of_z w16 _ (fitting y)) };
+    ghost told = { count_told };
 
     ghost back = { λ x. count_equal _ x (ap (to_z w16) (two_back _ (whole x)) ∙ to_z-of_z w16 _ (fitting x)) };
 

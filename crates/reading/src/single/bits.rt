@@ -10,7 +10,7 @@ pub const QUIET: u32 = 0x7FC0_0000;
 
 pub const SIGN: u32 = 0x8000_0000;
 
-// Is it a pattern that is not a number?
+/// Is it a pattern that is not a number?
 pub fn is_nan(bits: u32) -> bool
     ensures { result ≡ not_a_number bits }
 {
@@ -18,7 +18,7 @@ pub fn is_nan(bits: u32) -> bool
 }
 
 impl Single {
-    // The reading of any pattern: every one that is not a number becomes the one value that stands for them.
+    /// The reading of any pattern: every one that is not a number becomes the one value that stands for them.
     pub fn from_bits(bits: u32) -> Single
         ensures { result.bits ≡ (if not_a_number bits then quiet else bits) }
     {
@@ -29,6 +29,7 @@ impl Single {
         }
     }
 
+    /// The bits that are held.
     pub fn to_bits(&self) -> u32
         ensures { result ≡ self.now.bits }
     {

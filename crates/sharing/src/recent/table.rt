@@ -16,7 +16,7 @@ impl Recent {
         }
     }
 
-    // The number that was remembered `age` rows before the newest.
+    /// The number that was remembered `age` rows before the newest.
     #[tactic(auto, using(crate::proofs::Turning::number_aged))]
     pub fn newest(&self, age: usize) -> Option<u32>
         ensures { result ≡ slice_get (remembered self.now) age }
@@ -38,7 +38,7 @@ impl Recent {
         self.held = (self.held + 1).min(most);
     }
 
-    // Remembers a number, and forgets the oldest where there were 32.
+    /// Remembers a number, and forgets the oldest where there were 32.
     pub fn note(&mut self, block: u32)
         ensures { remembered self.new ≡ take 32 (block ∷ remembered self.old) }
     {

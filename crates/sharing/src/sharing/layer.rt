@@ -34,7 +34,7 @@ fn find<S: BlockStore>(store: &S, recent: &Recent, row: &[S::Reading]) -> Option
 }
 
 impl<S: BlockStore> Sharing<S> {
-    // A layer that remembers nothing yet, over any store.
+    /// A layer that remembers nothing yet, over any store.
     pub fn new(below: S) -> Sharing<S>
         ensures below { result.below ≡ below }
         ensures table { remembered result.recent ≡ [] }
@@ -45,7 +45,7 @@ impl<S: BlockStore> Sharing<S> {
         }
     }
 
-    // The store below, with all that was put into it; what the layer remembered is gone.
+    /// The store below, with all that was put into it; what the layer remembered is gone.
     pub fn into_below(self) -> S
         ensures { result ≡ self.below }
     {

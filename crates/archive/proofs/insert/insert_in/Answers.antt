@@ -1,4 +1,4 @@
-use Rattle.std.proofs.Common.{leb, length, set, ap, ◌∙◌, sym, refl, arith}
+use Rattle.std.proofs.Common.{leb, length, set, ap, ◌∙◌, refl}
 use Rattle.std.proofs.lemmas.Result.{err_from_is_err_and}
 use Rattle.archive.specs.Calling as asked
 use Rattle.archive.specs.Refusals.{insert_early}
@@ -28,7 +28,7 @@ returns-clause-left g c =
     let law = g.met.S.BlockStore.lawful _ _ _ _ c.in_ok-put.ensures in
     let t = (tables_of c.args.nodes.now c.args.used c.args.versions.now c.args.count) in
     done_by g.Q.Summary.means g.S.BlockStore t c.args.store.now c.put.new.self (asked.Asked.insert c.args.base c.args.place c.args.level c.args.row.now) c.in_ok-from.from c.write_insert-built.result c.write_insert-built.new.nodes c.put-2.new.entries
-    c.in_ok-from.ensures.room.0 c.in_ok-from.ensures.room.1 c.in_ok-from.ensures.free c.write_insert-built.ensures.any.bounds.within c.write_insert-built.auto.nodes c.write_insert-built.ensures.grown
+    c.in_ok-from.ensures.room.0 c.in_ok-from.ensures.room.1 c.in_ok-from.ensures.free c.write_insert-built.ensures.any.bounds.within c.write_insert-built.auto.nodes c.write_insert-built.ensures.free_only
     (insert_early (leb (version_limit (tables_of c.args.nodes.now c.args.used c.args.versions.now c.args.count)) c.args.count) c.args.place c.args.level (length c.args.row.now)) c.in_ok-from.ensures.ends refl (λ none. let l = insert_passed (leb (version_limit (tables_of c.args.nodes.now c.args.used c.args.versions.now c.args.count)) c.args.count) c.args.place c.args.level (length c.args.row.now) c.in_ok-from.from none in (l.flat, (l.some, l.most)))
     c.walked.result c.in_ok-put.field-0 c.put-2.ensures (ap (λ v. v.parent) c.walked.ensures) (ap (λ v. v.edit) c.walked.ensures) (ap (λ v. v.place) c.walked.ensures)
     (ap (λ v. v.level) c.walked.ensures) (ap (λ v. v.written) c.walked.ensures) (ap (λ v. v.block) c.walked.ensures ∙ c.block_of-block.ensures.number) (record { did = c.in_ok-put.ensures; taken = law })
@@ -38,5 +38,5 @@ returns-clause-law g c = λ es st.
     let law = g.met.S.BlockStore.lawful _ _ _ _ c.in_ok-put.ensures in
     answered g.Q.Summary.means g.S.BlockStore _ _ _ c.args.base c.args.place c.args.level c.args.row.now c.in_ok-from.from
     c.in_ok-put.field-0 c.block_of-block.result c.write_insert-built.new.nodes c.write_insert-built.result.root c.write_insert-built.result.used
-    es st (c.in_ok-from.ensures.looked es st.tables) law c.block_of-block.ensures c.write_insert-built.ensures.grown c.write_insert-built.ensures.inserted c.write_insert-built.auto.nodes
+    es st (c.in_ok-from.ensures.looked es st.tables) law c.block_of-block.ensures c.write_insert-built.ensures.free_only c.write_insert-built.ensures.inserted c.write_insert-built.auto.nodes
     c.in_ok-from.ensures.room.0 c.put-2.new.entries (c.put-2.ensures ∙ ap (set c.args.versions.now c.args.count) c.walked.ensures)

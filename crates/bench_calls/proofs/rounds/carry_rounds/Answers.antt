@@ -29,5 +29,5 @@ loop-preserved g c =
             mixes = c.replies_mixed-sum.ensures;
           });
       long = long ∙ known;
-      lender = c.carry_on.ensures.lender ∙ c.loop.invariant.lender;
+      same_slice = c.carry_on.ensures.same_slice ∙ c.loop.invariant.same_slice;
     }

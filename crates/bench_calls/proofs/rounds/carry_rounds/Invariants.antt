@@ -7,5 +7,5 @@ abbrev pub invariant-loop : goal.invariant-loop
 invariant-loop g l = record {
   told : Rounds g.S.BlockStore l.readings l.calls (archive_of l.initial.table l.initial.versions l.initial.store) l.initial.out l.counter l.sum (archive_of l.table l.versions l.store) l.out;
   long : length l.replies ≡ length l.calls;
-  lender : l.table.nodes.ghost_name ≡ l.initial.table.nodes.ghost_name;
+  same_slice : l.table.nodes.ghost_name ≡ l.initial.table.nodes.ghost_name;
 }

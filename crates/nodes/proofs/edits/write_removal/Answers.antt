@@ -16,4 +16,4 @@ returns-then-upto-eq0-clause-removed g c some =
     ]
 
 pub returns-clause-any : goal.returns-clause-any
-returns-clause-any g c = any_walked _ (seen_there _ _ c.is_none.ensures c.if-is_none.false _ c.view.ensures) c.blocks_in.ensures c.if-blocks_in-upto.false c.remove.ensures.grown c.remove.ensures.bounds c.remove.auto.nodes
+returns-clause-any g c = any_walked _ (seen_there _ _ c.is_none.ensures c.if-is_none.false _ c.view.ensures) c.blocks_in.ensures c.if-blocks_in-upto.false c.remove.ensures.free_only c.remove.ensures.bounds c.remove.auto.nodes

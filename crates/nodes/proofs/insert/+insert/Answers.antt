@@ -10,7 +10,7 @@ pub returns-then-cuts_before-clause-inserted : goal.returns-then-cuts_before-cla
 returns-then-cuts_before-clause-inserted g t c = insert_cut_below g.Q.Summary.means _ _ _ (rw c.in-Fork.is at c.in-Some.ensures) c.blocks_in-count.ensures c.if-upto-count.true (leb-true _ _ (sym c.if-cuts_before.ensures)) c.cut-then-cuts_before.ensures.made
 
 pub returns-then-upto-count-clause-inserted : goal.returns-then-upto-count-clause-inserted
-returns-then-upto-count-clause-inserted g t c = rw c.write_fork.ensures.root (insert_below g.Q.Summary.means _ _ _ (rw c.in-Fork.is at c.in-Some.ensures) c.blocks_in-count.ensures c.if-upto-count.true (leb-false _ _ (sym c.if-cuts_before.ensures)) c.insert-part.ensures.grown c.insert-part.ensures.inserted c.insert-part.auto.nodes c.write_fork.ensures.made)
+returns-then-upto-count-clause-inserted g t c = rw c.write_fork.ensures.root (insert_below g.Q.Summary.means _ _ _ (rw c.in-Fork.is at c.in-Some.ensures) c.blocks_in-count.ensures c.if-upto-count.true (leb-false _ _ (sym c.if-cuts_before.ensures)) c.insert-part.ensures.free_only c.insert-part.ensures.inserted c.insert-part.auto.nodes c.write_fork.ensures.made)
 
 pub returns-then-cuts_after-clause-inserted : goal.returns-then-cuts_after-clause-inserted
 returns-then-cuts_after-clause-inserted g t c = insert_cut_after g.Q.Summary.means _ _ _ (rw c.in-Fork.is at c.in-Some.ensures) c.blocks_in-count.ensures (omega arith) (ltb-true _ _ (sym c.if-cuts_after.ensures)) c.cut-then-cuts_after.ensures.made
@@ -28,4 +28,4 @@ pub returns-else-upto-own-clause-inserted : goal.returns-else-upto-own-clause-in
 returns-else-upto-own-clause-inserted g t c = rw c.write_leaf-in-Leaf-default-default-Some.ensures.root (insert_on g.Q.Summary.means _ _ _ (rw (c.in-Leaf-default-default-Some.is, rw c.in-Leaf-default-default-Some.is at c.in-Leaf-default-default-Some.after-is) at c.in-Some.ensures) c.kept_block-kept-in-Leaf-default-default-Some.ensures c.min-own.ensures (omega arith) (omega arith) c.insert-rest.ensures.inserted c.insert-rest.auto.nodes c.write_leaf-in-Leaf-default-default-Some.ensures.made)
 
 pub returns-else-cuts_after-clause-inserted : goal.returns-else-cuts_after-clause-inserted
-returns-else-cuts_after-clause-inserted g t c = rw c.write_fork-in-Fork.ensures.root (insert_after g.Q.Summary.means _ _ _ (rw c.in-Fork.is at c.in-Some.ensures) c.blocks_in-count.ensures (omega arith) (ltb-false _ _ (sym c.if-cuts_after.ensures)) c.insert-part-in-Fork.ensures.grown c.insert-part-in-Fork.ensures.inserted c.insert-part-in-Fork.auto.nodes c.write_fork-in-Fork.ensures.made)
+returns-else-cuts_after-clause-inserted g t c = rw c.write_fork-in-Fork.ensures.root (insert_after g.Q.Summary.means _ _ _ (rw c.in-Fork.is at c.in-Some.ensures) c.blocks_in-count.ensures (omega arith) (ltb-false _ _ (sym c.if-cuts_after.ensures)) c.insert-part-in-Fork.ensures.free_only c.insert-part-in-Fork.ensures.inserted c.insert-part-in-Fork.auto.nodes c.write_fork-in-Fork.ensures.made)

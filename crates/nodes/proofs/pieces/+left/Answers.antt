@@ -22,4 +22,4 @@ pub returns-else-upto-own-clause-made : goal.returns-else-upto-own-clause-made
 returns-else-upto-own-clause-made g t c = rw c.write_leaf-in-Leaf-default-default-Some.ensures.root (left_on g.Q.Summary.means _ _ c.blocks_in.ensures (eqb-false _ _ (sym c.if-ends_at_cut.ensures)) (rw (c.in-Leaf-default-default-Some.is, rw c.in-Leaf-default-default-Some.is at c.in-Leaf-default-default-Some.after-is) at c.in-Some.ensures) c.kept_block-kept.ensures c.min-own.ensures (omega arith) c.left-rest.ensures.made c.left-rest.auto.nodes c.write_leaf-in-Leaf-default-default-Some.ensures.made)
 
 pub returns-else-upto-count-clause-made : goal.returns-else-upto-count-clause-made
-returns-else-upto-count-clause-made g t c = rw c.write_fork.ensures.root (left_after g.Q.Summary.means _ _ c.blocks_in.ensures (eqb-false _ _ (sym c.if-ends_at_cut.ensures)) (rw c.in-Fork.is at c.in-Some.ensures) c.blocks_in-count.ensures (omega arith) c.left-part.ensures.grown c.left-part.ensures.made c.left-part.auto.nodes c.write_fork.ensures.made)
+returns-else-upto-count-clause-made g t c = rw c.write_fork.ensures.root (left_after g.Q.Summary.means _ _ c.blocks_in.ensures (eqb-false _ _ (sym c.if-ends_at_cut.ensures)) (rw c.in-Fork.is at c.in-Some.ensures) c.blocks_in-count.ensures (omega arith) c.left-part.ensures.free_only c.left-part.ensures.made c.left-part.auto.nodes c.write_fork.ensures.made)

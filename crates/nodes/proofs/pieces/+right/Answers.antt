@@ -6,7 +6,7 @@ pub returns-then-upto-own-clause-made : goal.returns-then-upto-own-clause-made
 returns-then-upto-own-clause-made g t c = rw c.write_leaf-then-upto-own.ensures.root (right_stop g.Q.Summary.means _ _ (rw (c.in-Leaf-default-default-Some.is, rw c.in-Leaf-default-default-Some.is at c.in-Leaf-default-default-Some.after-is) at c.in-Some.ensures) c.min-own.ensures c.if-upto-own.true c.write_leaf-then-upto-own.ensures.made)
 
 pub returns-then-upto-count-clause-made : goal.returns-then-upto-count-clause-made
-returns-then-upto-count-clause-made g t c = rw c.write_fork.ensures.root (right_below g.Q.Summary.means _ _ (rw c.in-Fork.is at c.in-Some.ensures) c.blocks_in-count.ensures c.if-upto-count.true c.right-part.ensures.grown c.right-part.ensures.made c.right-part.auto.nodes c.write_fork.ensures.made)
+returns-then-upto-count-clause-made g t c = rw c.write_fork.ensures.root (right_below g.Q.Summary.means _ _ (rw c.in-Fork.is at c.in-Some.ensures) c.blocks_in-count.ensures c.if-upto-count.true c.right-part.ensures.free_only c.right-part.ensures.made c.right-part.auto.nodes c.write_fork.ensures.made)
 
 pub returns-in_default-clause-made : goal.returns-in_default-clause-made
 returns-in_default-clause-made g t c = right_nothing g.Q.Summary.means _ _ c.in_default.ensures

@@ -8,4 +8,4 @@ pub returns-in-Leaf-clause-led : goal.returns-in-Leaf-clause-led
 returns-in-Leaf-clause-led g t c = rw c.write_leaf.ensures.root (lead_leaf g.Q.Summary.means _ _ (rw c.in-Leaf.is at c.in-Some.ensures) c.write_leaf.ensures.made)
 
 pub returns-in-Fork-clause-led : goal.returns-in-Fork-clause-led
-returns-in-Fork-clause-led g t c = rw c.write_fork.ensures.root (lead_fork g.Q.Summary.means _ (rw c.in-Fork.is at c.in-Some.ensures) c.lead_by-part.ensures.grown c.lead_by-part.ensures.led c.lead_by-part.auto.nodes c.write_fork.ensures.made)
+returns-in-Fork-clause-led g t c = rw c.write_fork.ensures.root (lead_fork g.Q.Summary.means _ (rw c.in-Fork.is at c.in-Some.ensures) c.lead_by-part.ensures.free_only c.lead_by-part.ensures.led c.lead_by-part.auto.nodes c.write_fork.ensures.made)

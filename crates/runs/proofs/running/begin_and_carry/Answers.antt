@@ -4,7 +4,7 @@ use Rattle.runs.proofs.running.begin_and_carry.Goals as goal
 
 pub returns : goal.returns
 returns g c =
-    let back = c.nodes-1.given.1.1 (sym (c.carry_all-done.ensures.lender ∙ c.begin-table.ensures.lender)) in
+    let back = c.nodes-1.given.1.1 (sym (c.carry_all-done.ensures.same_slice ∙ c.begin-table.ensures.same_slice)) in
     record {
       carried = carried g.Q.Summary.means g.met.Q.Summary.lawful g.S.BlockStore c.args.nodes.now _ _ c.args.versions.now _ c.carry_all-done.new.versions (record { used = c.begin-table.result.used; count = c.begin-table.result.count })
           c.args.store.now c.carry_all-done.new.store c.args.readings.now c.args.calls.now c.args.out.now c.carry_all-done.new.out c.args.replies.now c.carry_all-done.new.replies

@@ -9,7 +9,7 @@ use Rattle.journal.proofs.loading.taking.take_in_all.Goals as goal
 pub loop-at-preserved : goal.loop-at-preserved
 loop-at-preserved g c = (
   so_far_more g.Q.Summary.means g.S.BlockStore (coding g.S.Reading.Reading) (archive_of c.args.table.now c.args.versions.now c.args.store.now) (archive_of c.loop-at.table c.loop-at.versions c.loop-at.store) (archive_of c.take_in.new.table c.take_in.new.versions c.take_in.new.store) c.args.area.now c.loop-at.area c.take_in.new.area c.args.bytes.now c.loop-at.at c.in_ok-at.at c.loop-at.invariant.0 c.in_ok-at.ensures.taken,
-  c.take_in.ensures.lender ∙ c.loop-at.invariant.1,
+  c.take_in.ensures.same_slice ∙ c.loop-at.invariant.1,
 )
 
 pub returns-in_err-at-clause-law : goal.returns-in_err-at-clause-law

@@ -1,5 +1,0 @@
-use Rattle.piles.proofs.Depth.{piled}
-use Rattle.piles.proofs.pile_meaning.Goals as goal
-
-pub returns : goal.returns
-returns g c = piled g.S.BlockStore.rows g.S.BlockStore.refuses g.S.BlockStore.puts g.S.BlockStore.area_long

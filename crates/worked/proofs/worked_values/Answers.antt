@@ -1,7 +1,0 @@
-use Rattle.reading.proofs.Values.{rank_values}
-use Rattle.summary.proofs.Values.{summary_values}
-use Rattle.flexlist.proofs.Values.{shape_values}
-use Rattle.worked.proofs.worked_values.Goals as goal
-
-pub returns : goal.returns
-returns c = record { ranks = rank_values; summaries = summary_values; shapes = shape_values }
