@@ -3,9 +3,8 @@ ghost use Rattle.std.specs.Prelude.{◌≡◌};
 
 use nodes::Node;
 
-mod asks;
 mod calls;
-mod edits;
+mod counting;
 
 /// What an accepted edit answers: under which number its version goes, and how many nodes it wrote.
 #[derive(Clone, Copy, PartialEq, Eq, Debug)]

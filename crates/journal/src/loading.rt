@@ -5,12 +5,12 @@ ghost use Rattle.archive.specs.Calling.{archive_of};
 ghost use Rattle.journal.specs.Format.{coding};
 ghost use Rattle.journal.specs.Loading.{LoadedFrom};
 
-use archive::Version;
+use archive::{NodeTable, Version};
 use nodes::Node;
 use store::BlockStore;
 use summary::Summary;
+use taking::take_in_all;
 
-mod beginning;
 mod loaded;
 mod opening;
 mod records;
@@ -22,7 +22,6 @@ pub use loaded::Loaded;
 /// Begins an archive in the caller's tables, and takes in the edits of a journal, one after another, up to its end or to the first fault, which is told
 /// with the place where the record at fault begins. Readings go to the front of the row area as soon as they are read. What was taken in before a fault
 /// stays.
-/// Thin over a function with the same promise: that has a proof written by hand, and a fault here is then refused for the fact that fails.
 pub fn load<'a, S: BlockStore, Q: Summary<Reading = S::Reading>>(
     bytes: &[u8],
     nodes: &'a mut [Node<Q>],
@@ -35,5 +34,7 @@ pub fn load<'a, S: BlockStore, Q: Summary<Reading = S::Reading>>(
         (archive_of result.table versions.new store.new) area.new }
     ensures same_slice { result.table.nodes.ghost_name ≡ nodes.entry.ghost_name }
 {
-    beginning::begin_and_take_in(bytes, nodes, versions, store, area)
+    let mut table = NodeTable::begin(nodes, versions);
+    let answer = take_in_all(&mut table, versions, store, bytes, area);
+    Loaded { table, answer }
 }

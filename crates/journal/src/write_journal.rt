@@ -43,26 +43,8 @@ fn write_tables<S: BlockStore>(
     Ok(total)
 }
 
-fn write_archive<S: BlockStore, Q: Summary<Reading = S::Reading>>(
-    table: &NodeTable<'_, Q>,
-    versions: &[Version],
-    store: &S,
-    out: &mut [u8],
-) -> Result<usize, JournalFault>
-    ensures left { WriteLeft out.old result out.new }
-    ensures exact { Writes
-        (tables_bytes (coding S.Reading.Reading.own) (S.BlockStore.rows store.now) versions.now table.now.count)
-        out.old result out.new }
-    ensures law { S.Reading.Reading.CODE < 252 → WriteLaw Q.Summary.means S.BlockStore
-        (coding S.Reading.Reading.own) (archive_of table.now versions.now store.now) out.old
-        result out.new }
-{
-    write_tables(versions, table.count(), store, out)
-}
-
 /// Writes the journal of an archive to the output's start, and answers how many bytes it has; behind it the output keeps what it had. An output that is
 /// too short is refused, and stays. The kind's code is to be below 252, so that the kind byte of a reading's record is one.
-/// Thin over a function with the same promise: that has a proof written by hand, and a fault here is then refused for the fact that fails.
 pub fn write<S: BlockStore, Q: Summary<Reading = S::Reading>>(
     table: &NodeTable<'_, Q>,
     versions: &[Version],
@@ -77,5 +59,5 @@ pub fn write<S: BlockStore, Q: Summary<Reading = S::Reading>>(
         (coding S.Reading.Reading.own) (archive_of table.now versions.now store.now) out.old
         result out.new }
 {
-    write_archive(table, versions, store, out)
+    write_tables(versions, table.count(), store, out)
 }

@@ -1,17 +1,6 @@
 //! The law over runs: what any calls on an archive answer and leave, one after another, and the call that carries out a list of them. Carrying out a
-//! list takes the time of its calls. The two calls are thin over functions with the same promise: those have proofs written by hand, and a fault here
-//! is then refused for the fact that fails.
-//! `same_slice`: that the table stays the caller's slice speaks of two values, so that no invariant of its type can say it.
+//! list takes the time of its calls.
 #![tactic(auto)]
-
-ghost use Rattle.std.specs.Prelude.{◌≡◌, min, length, take, drop};
-ghost use Rattle.archive.specs.Calling.{archive_of};
-ghost use Rattle.runs.specs.Lists.{Carried, CarriedOn};
-
-use archive::{NodeTable, Version};
-use nodes::Node;
-use store::BlockStore;
-use summary::Summary;
 
 mod call;
 mod laws;
@@ -24,42 +13,4 @@ pub use call::Call;
 pub use laws::runs_lawful;
 pub use ran::Ran;
 pub use reply::Reply;
-
-/// Begins an archive in the caller's tables, carries the calls out on it in their order, and writes the reply to each: as many calls as there are places
-/// for replies. A call's row stands in `readings`, a span goes to `out`.
-pub fn carry_out<S: BlockStore, Q: Summary<Reading = S::Reading>>(
-    nodes: &mut [Node<Q>],
-    versions: &mut [Version],
-    store: &mut S,
-    readings: &[S::Reading],
-    calls: &[Call],
-    out: &mut [S::Reading],
-    replies: &mut [Reply<S::Reading, Q>],
-) -> Ran
-    ensures carried { Carried Q.Summary.means S.BlockStore nodes.old versions.old store.old
-        readings.now calls.now out.old replies.old result
-        nodes.new versions.new store.new out.new replies.new }
-{
-    running::begin_and_carry(nodes, versions, store, readings, calls, out, replies)
-}
-
-/// Carries calls out on an archive that stands already, and answers how many.
-pub fn carry_on<S: BlockStore, Q: Summary<Reading = S::Reading>>(
-    table: &mut NodeTable<'_, Q>,
-    versions: &mut [Version],
-    store: &mut S,
-    readings: &[S::Reading],
-    calls: &[Call],
-    out: &mut [S::Reading],
-    replies: &mut [Reply<S::Reading, Q>],
-) -> usize
-    ensures done { result ≡ min (length calls.now) (length replies.old) }
-    ensures rest { drop result replies.new ≡ drop result replies.old }
-    ensures carried { CarriedOn Q.Summary.means S.BlockStore
-        readings.now (take result calls.now) (take result replies.new)
-        (archive_of table.old versions.old store.old) out.old
-        (archive_of table.new versions.new store.new) out.new }
-    ensures same_slice { table.new.nodes.ghost_name ≡ table.old.nodes.ghost_name }
-{
-    running::carry_all(table, versions, store, readings, calls, out, replies)
-}
+pub use running::{carry_on, carry_out};

@@ -13,8 +13,9 @@ use nodes::Node;
 use store::BlockStore;
 use summary::Summary;
 
-// As many calls are carried out as there are places for replies; answers how many.
-pub(crate) fn carry_all<S: BlockStore, Q: Summary<Reading = S::Reading>>(
+/// Carries calls out on an archive that stands already, and answers how many: as many as
+/// there are places for replies.
+pub fn carry_on<S: BlockStore, Q: Summary<Reading = S::Reading>>(
     table: &mut NodeTable<'_, Q>,
     versions: &mut [Version],
     store: &mut S,
@@ -39,8 +40,9 @@ pub(crate) fn carry_all<S: BlockStore, Q: Summary<Reading = S::Reading>>(
     count
 }
 
-// Begins an archive in the caller's tables, and carries the calls out on it.
-pub(crate) fn begin_and_carry<S: BlockStore, Q: Summary<Reading = S::Reading>>(
+/// Begins an archive in the caller's tables, carries the calls out on it in their order, and writes the reply to each: as many calls as there are places
+/// for replies. A call's row stands in `readings`, a span goes to `out`.
+pub fn carry_out<S: BlockStore, Q: Summary<Reading = S::Reading>>(
     nodes: &mut [Node<Q>],
     versions: &mut [Version],
     store: &mut S,
@@ -54,7 +56,7 @@ pub(crate) fn begin_and_carry<S: BlockStore, Q: Summary<Reading = S::Reading>>(
         nodes.new versions.new store.new out.new replies.new }
 {
     let mut table = NodeTable::begin(nodes, versions);
-    let done = carry_all(&mut table, versions, store, readings, calls, out, replies);
+    let done = carry_on(&mut table, versions, store, readings, calls, out, replies);
     Ran {
         done,
         used: table.used(),

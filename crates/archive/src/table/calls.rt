@@ -1,6 +1,5 @@
 // The calls of an archive. Versions and store come with each call, by the project's rule; the nodes are the table's. An edit takes time in proportion to
-// its path, and to its row. Each is thin over a function with the same promise: that has a proof written by hand, and a fault here is then refused for the
-// fact that fails.
+// its path, and to its row.
 ghost use Rattle.std.specs.Prelude.{◌≡◌, ◌-◌, None, length};
 ghost use Rattle.archive.specs.Beginning.{Begin};
 ghost use Rattle.archive.specs.Asking.{answer_by, position_refusal, stretch_refusal, output_refusal, ReadingEnds, SummaryEnds, SpanLeft};
@@ -9,8 +8,13 @@ ghost use Rattle.archive.specs.Calling.{archive_of, EditKept, EditLaw, ReadingTo
 ghost use Rattle.archive.specs.Calling as asked;
 
 use super::{Accepted, NodeTable};
+use crate::ask::{reading_in, span_in, summary_in};
 use crate::begin::begin_in;
+use crate::change::change_in;
 use crate::fault::{EditFault, ReadFault};
+use crate::insert::insert_in;
+use crate::look::version_at;
+use crate::removal::removal_in;
 use crate::version::Version;
 use nodes::Node;
 use questions::Answer;
@@ -68,7 +72,15 @@ impl<Q: Summary> NodeTable<'_, Q> {
             (archive_of self.new versions.new store.new) }
         ensures same_slice { self.new.nodes.ghost_name ≡ self.old.nodes.ghost_name }
     {
-        self.insert_row(versions, store, base, place, level, row)
+        let used = self.used;
+        let count = self.count;
+        if count <= base {
+            return Err(EditFault::Version);
+        }
+        let built = insert_in(
+            self.nodes, used, versions, count, store, base, place, level, row,
+        )?;
+        Ok(self.take_in(built))
     }
 
     /// Puts a row in behind the last block, at level 0.
@@ -87,7 +99,8 @@ impl<Q: Summary> NodeTable<'_, Q> {
             (archive_of self.new versions.new store.new) }
         ensures same_slice { self.new.nodes.ghost_name ≡ self.old.nodes.ghost_name }
     {
-        self.append_row(versions, store, base, row)
+        let from = version_at(versions, self.count, base).ok_or(EditFault::Version)?;
+        self.insert(versions, store, base, from.blocks, 0, row)
     }
 
     /// Gives the block at a place another row; its level stays.
@@ -107,7 +120,13 @@ impl<Q: Summary> NodeTable<'_, Q> {
             (archive_of self.new versions.new store.new) }
         ensures same_slice { self.new.nodes.ghost_name ≡ self.old.nodes.ghost_name }
     {
-        self.change_row(versions, store, base, place, row)
+        let used = self.used;
+        let count = self.count;
+        if count <= base {
+            return Err(EditFault::Version);
+        }
+        let built = change_in(self.nodes, used, versions, count, store, base, place, row)?;
+        Ok(self.take_in(built))
     }
 
     /// Takes the block at a place out. The store is only read.
@@ -126,7 +145,13 @@ impl<Q: Summary> NodeTable<'_, Q> {
             (archive_of self.new versions.new store.now) }
         ensures same_slice { self.new.nodes.ghost_name ≡ self.old.nodes.ghost_name }
     {
-        self.remove_block(versions, store, base, place)
+        let used = self.used;
+        let count = self.count;
+        if count <= base {
+            return Err(EditFault::Version);
+        }
+        let built = removal_in(self.nodes, used, versions, count, store, base, place)?;
+        Ok(self.take_in(built))
     }
 
     /// What was read at a position of a version, and how many nodes lead to the block that has it.
@@ -142,7 +167,7 @@ impl<Q: Summary> NodeTable<'_, Q> {
         ensures law { ReadingTold Q.Summary.means S.BlockStore
             (archive_of self.now versions.now store.now) version position result }
     {
-        self.read_one(versions, store, version, position)
+        reading_in(self.lent(), versions, self.count, store, version, position)
     }
 
     /// Copies what a version has from position a on, up to b and without it, to the output's start, and answers how many readings that are. Further places
@@ -162,7 +187,7 @@ impl<Q: Summary> NodeTable<'_, Q> {
         ensures law { SpanTold Q.Summary.means S.BlockStore (archive_of self.now versions.now store.now)
             version a b out.old result out.new }
     {
-        self.copy_span(versions, store, version, a, b, out)
+        span_in(self.lent(), versions, self.count, store, version, a, b, out)
     }
 
     /// The summary of the readings a to b − 1 of a version.
@@ -179,6 +204,6 @@ impl<Q: Summary> NodeTable<'_, Q> {
         ensures law { SummaryTold Q.Summary.means S.BlockStore
             (archive_of self.now versions.now store.now) version a b result }
     {
-        self.sum_span(versions, store, version, a, b)
+        summary_in(self.lent(), versions, self.count, store, version, a, b)
     }
 }

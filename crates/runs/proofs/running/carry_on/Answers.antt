@@ -1,6 +1,6 @@
 use Rattle.std.proofs.Common.{refl, ◌∙◌, arith, length-take}
 use Rattle.runs.proofs.Lists.{none_carried, next_carried, all_carried}
-use Rattle.runs.proofs.running.carry_all.Goals as goal
+use Rattle.runs.proofs.running.carry_on.Goals as goal
 
 pub loop-i-init : goal.loop-i-init
 loop-i-init g c = record { carried = none_carried g.Q.Summary.means g.S.BlockStore _ _ _; same_slice = refl }

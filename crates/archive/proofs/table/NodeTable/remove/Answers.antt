@@ -1,6 +1,6 @@
 use Rattle.std.proofs.Common.{refl, ap}
 use Rattle.archive.proofs.Calls.{same_archive, removal_ok}
-use Rattle.archive.proofs.table.NodeTable.remove_block.Goals as goal
+use Rattle.archive.proofs.table.NodeTable.remove.Goals as goal
 
 pub returns-clause-kept : goal.returns-clause-kept
 returns-clause-kept g c =

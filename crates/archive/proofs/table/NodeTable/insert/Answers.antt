@@ -1,6 +1,6 @@
 use Rattle.std.proofs.Common.{refl, ap}
 use Rattle.archive.proofs.Calls.{same_archive, insert_ok}
-use Rattle.archive.proofs.table.NodeTable.insert_row.Goals as goal
+use Rattle.archive.proofs.table.NodeTable.insert.Goals as goal
 
 pub returns-clause-kept : goal.returns-clause-kept
 returns-clause-kept g c =

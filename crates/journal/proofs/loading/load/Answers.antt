@@ -1,5 +1,5 @@
 use Rattle.journal.proofs.LoadBegun.{loaded_from}
-use Rattle.journal.proofs.loading.beginning.begin_and_take_in.Goals as goal
+use Rattle.journal.proofs.loading.load.Goals as goal
 
 pub returns-clause-loaded : goal.returns-clause-loaded
 returns-clause-loaded g c =

@@ -1,6 +1,6 @@
 use Rattle.std.proofs.Common.{refl, ap}
 use Rattle.archive.proofs.Calls.{same_archive, change_ok}
-use Rattle.archive.proofs.table.NodeTable.change_row.Goals as goal
+use Rattle.archive.proofs.table.NodeTable.change.Goals as goal
 
 pub returns-clause-kept : goal.returns-clause-kept
 returns-clause-kept g c =

@@ -1,5 +1,5 @@
 use Rattle.archive.proofs.Calls.{span_asked}
-use Rattle.archive.proofs.table.NodeTable.copy_span.Goals as goal
+use Rattle.archive.proofs.table.NodeTable.span.Goals as goal
 
 pub returns-clause-law : goal.returns-clause-law
 returns-clause-law g c =

@@ -1,7 +1,7 @@
 use Rattle.std.proofs.Common.{◌≡◌, take}
 use Rattle.archive.specs.Calling.{archive_of}
 use Rattle.runs.specs.Lists.{CarriedOn}
-use Rattle.runs.proofs.running.carry_all.Given as goal
+use Rattle.runs.proofs.running.carry_on.Given as goal
 
 abbrev pub invariant-loop-i : goal.invariant-loop-i
 invariant-loop-i g l = record {

@@ -4,7 +4,7 @@ use Rattle.journal.specs.Writing.{Writes}
 use Rattle.journal.specs.Format.{coding}
 use Rattle.journal.specs.Written.{tables_bytes}
 use Rattle.journal.proofs.Written.{journal_written}
-use Rattle.journal.proofs.write_journal.write_archive.Goals as goal
+use Rattle.journal.proofs.write_journal.write.Goals as goal
 
 pub returns-clause-law : goal.returns-clause-law
 returns-clause-law g c = λ small h st.
