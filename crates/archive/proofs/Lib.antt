@@ -13,6 +13,7 @@ pub mod Roots
 pub mod Changes
 pub mod Removals
 pub mod Calls
+pub mod Begun
 pub mod Asks
 pub mod Stretches
 pub mod Holding

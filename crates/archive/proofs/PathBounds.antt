@@ -1,5 +1,5 @@
 -- A path has no more nodes than its tree has leaves. Assumes nothing.
-use Rattle.std.proofs.Common.{ℕ, suc, ◌+◌, ◌≤◌, arith}
+use Rattle.std.proofs.Common.{◌+◌, ◌≤◌, arith}
 use Rattle.flexlist.specs.Shape.{Tree, last, leaf, fork}
 use Rattle.flexlist.specs.Nodes.{Path, end, stop, on, below, after, leaves, nodes, nodes_of_both}
 

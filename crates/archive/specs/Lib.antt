@@ -7,4 +7,5 @@ pub mod Editing
 pub mod Beginning
 pub mod Asking
 pub mod Held
+pub mod History
 pub mod Calling

@@ -30,10 +30,11 @@ pub(crate) fn reading_in<S: BlockStore, Q: Summary<Reading = S::Reading>>(
     version: u32,
     position: u32,
 ) -> Result<Answer<S::Reading>, ReadFault>
-    ensures ends { ReadingEnds (position_refusal position (in_use versions.now count version)) result }
+    ensures ends { ReadingEnds (position_refusal position (in_use versions.now count version))
+        result }
     ensures none { count ≡ 0 → result ≡ Err unread.Version }
-    ensures law { ReadingLaw Q.Summary.means S.BlockStore.rows nodes.now versions.now count store.now
-        version position result }
+    ensures law { ReadingLaw Q.Summary.means S.BlockStore.rows nodes.now versions.now count
+        store.now version position result }
 {
     let from = version_at(versions, count, version).ok_or(ReadFault::Version)?;
     if from.readings <= position {
@@ -58,8 +59,8 @@ pub(crate) fn span_in<S: BlockStore, Q: Summary<Reading = S::Reading>>(
         result ≡ answer_by (stretch_refusal a b (in_use versions.now count version) short) (b - a) }
     ensures none { count ≡ 0 → result ≡ Err unread.Version }
     ensures left { SpanLeft a b out.old result out.new }
-    ensures law { SpanLaw Q.Summary.means S.BlockStore.rows nodes.now versions.now count store.now version
-        a b out.old result out.new }
+    ensures law { SpanLaw Q.Summary.means S.BlockStore.rows nodes.now versions.now count store.now
+        version a b out.old result out.new }
 {
     let from = version_at(versions, count, version).ok_or(ReadFault::Version)?;
     if outside(from.readings, a, b) {
@@ -83,10 +84,11 @@ pub(crate) fn summary_in<S: BlockStore, Q: Summary<Reading = S::Reading>>(
     a: u32,
     b: u32,
 ) -> Result<Q, ReadFault>
-    ensures ends { SummaryEnds (stretch_refusal a b (in_use versions.now count version) None) result }
+    ensures ends { SummaryEnds (stretch_refusal a b (in_use versions.now count version) None)
+        result }
     ensures none { count ≡ 0 → result ≡ Err unread.Version }
-    ensures law { SummaryLaw Q.Summary.means S.BlockStore.rows nodes.now versions.now count store.now
-        version a b result }
+    ensures law { SummaryLaw Q.Summary.means S.BlockStore.rows nodes.now versions.now count
+        store.now version a b result }
 {
     let from = version_at(versions, count, version).ok_or(ReadFault::Version)?;
     if outside(from.readings, a, b) {

@@ -23,11 +23,12 @@ pub(crate) fn change_in<S: BlockStore, Q: Summary<Reading = S::Reading>>(
     place: u32,
     row: &[S::Reading],
 ) -> Result<Built, EditFault>
-    ensures left { EditLeft Q.Summary.means S.BlockStore (tables_of nodes.old used versions.old count)
-        store.old (asked.Asked.change base place row.now) result nodes.new versions.new
-        store.new }
-    ensures law { ChangeLaw Q.Summary.means S.BlockStore (tables_of nodes.old used versions.old count)
-        store.old base place row.now result nodes.new versions.new store.new }
+    ensures left { EditLeft Q.Summary.means S.BlockStore
+        (tables_of nodes.old used versions.old count) store.old
+        (asked.Asked.change base place row.now) result nodes.new versions.new store.new }
+    ensures law { ChangeLaw Q.Summary.means S.BlockStore
+        (tables_of nodes.old used versions.old count) store.old base place row.now result nodes.new
+        versions.new store.new }
     ensures room { OnOk result (count < 4096) }
     ensures more { IfOk result (λ built. used ≤ built.used) }
 {

@@ -24,11 +24,12 @@ pub(crate) fn insert_in<S: BlockStore, Q: Summary<Reading = S::Reading>>(
     level: u8,
     row: &[S::Reading],
 ) -> Result<Built, EditFault>
-    ensures left { EditLeft Q.Summary.means S.BlockStore (tables_of nodes.old used versions.old count)
-        store.old (asked.Asked.insert base place level row.now) result nodes.new
-        versions.new store.new }
-    ensures law { InsertLaw Q.Summary.means S.BlockStore (tables_of nodes.old used versions.old count)
-        store.old base place level row.now result nodes.new versions.new store.new }
+    ensures left { EditLeft Q.Summary.means S.BlockStore
+        (tables_of nodes.old used versions.old count) store.old
+        (asked.Asked.insert base place level row.now) result nodes.new versions.new store.new }
+    ensures law { InsertLaw Q.Summary.means S.BlockStore
+        (tables_of nodes.old used versions.old count) store.old base place level row.now result
+        nodes.new versions.new store.new }
     ensures room { OnOk result (count < 4096) }
     ensures more { IfOk result (λ built. used ≤ built.used) }
 {

@@ -21,8 +21,9 @@ pub(crate) fn removal_in<S: BlockStore, Q: Summary<Reading = S::Reading>>(
     base: u32,
     place: u32,
 ) -> Result<Built, EditFault>
-    ensures left { EditLeft Q.Summary.means S.BlockStore (tables_of nodes.old used versions.old count)
-        store.now (asked.Asked.removal base place) result nodes.new versions.new store.now }
+    ensures left { EditLeft Q.Summary.means S.BlockStore
+        (tables_of nodes.old used versions.old count) store.now (asked.Asked.removal base place)
+        result nodes.new versions.new store.now }
     ensures law { RemovalLaw Q.Summary.means S.BlockStore.rows
         (tables_of nodes.old used versions.old count) store.now base place result nodes.new
         versions.new }

@@ -114,8 +114,8 @@ pub(crate) fn insert(
     places: &[u32],
     rounds: u32,
 ) -> Result<u64, AllocError>
-    ensures { IfOk result
-        (λ told. Timed journal.now (map (λ place. call.Insert base place level 0 len) places.now) rounds told) }
+    ensures { IfOk result (λ told. Timed journal.now
+        (map (λ place. call.Insert base place level 0 len) places.now) rounds told) }
 {
     let calls = inserts(heap, base, level, len, places)?;
     timed(heap, journal, calls.as_slice(), rounds)
@@ -128,8 +128,8 @@ pub(crate) fn reading(
     positions: &[u32],
     rounds: u32,
 ) -> Result<u64, AllocError>
-    ensures { IfOk result
-        (λ told. Timed journal.now (map (λ position. call.Reading version position) positions.now) rounds told) }
+    ensures { IfOk result (λ told. Timed journal.now
+        (map (λ position. call.Reading version position) positions.now) rounds told) }
 {
     let calls = readings(heap, version, positions)?;
     timed(heap, journal, calls.as_slice(), rounds)
@@ -143,8 +143,8 @@ pub(crate) fn span(
     starts: &[u32],
     rounds: u32,
 ) -> Result<u64, AllocError>
-    ensures { IfOk result
-        (λ told. Timed journal.now (map (λ a. call.Span version a ((a + len) % 2 ^ 32) 0) starts.now) rounds told) }
+    ensures { IfOk result (λ told. Timed journal.now
+        (map (λ a. call.Span version a ((a + len) % 2 ^ 32) 0) starts.now) rounds told) }
 {
     let calls = spans(heap, version, len, starts)?;
     timed(heap, journal, calls.as_slice(), rounds)
@@ -158,8 +158,8 @@ pub(crate) fn summary(
     starts: &[u32],
     rounds: u32,
 ) -> Result<u64, AllocError>
-    ensures { IfOk result
-        (λ told. Timed journal.now (map (λ a. call.Summary version a ((a + len) % 2 ^ 32)) starts.now) rounds told) }
+    ensures { IfOk result (λ told. Timed journal.now
+        (map (λ a. call.Summary version a ((a + len) % 2 ^ 32)) starts.now) rounds told) }
 {
     let calls = summaries(heap, version, len, starts)?;
     timed(heap, journal, calls.as_slice(), rounds)

@@ -13,7 +13,7 @@ use Rattle.archive.specs.declared.table.Accepted.{Accepted}
 use Rattle.archive.specs.Stands.{Tables}
 use Rattle.archive.specs.Calling.{Archive, Asked, insert, append, change, removal, Answered, RowPut, RowRefused, EditDone, EditAccepted, EditTold, asked_refusal, edit_asked, number_in}
 use Rattle.archive.proofs.Later.{same_some, some_none}
-use Rattle.runs.specs.Runs.{History}
+use Rattle.archive.specs.History.{History}
 use Rattle.journal.specs.Format.{Entry, asked_of}
 use Rattle.journal.specs.Loading.{Took}
 use Rattle.journal.proofs.LoadSame.{EditsSame}

@@ -7,8 +7,8 @@ use Rattle.archive.specs.declared.version.Version.{Version}
 use Rattle.archive.specs.declared.begin.Begun.{Begun}
 use Rattle.archive.specs.Beginning.{Begin}
 use Rattle.archive.specs.Calling.{Archive}
-use Rattle.runs.specs.Runs.{begun_history}
-use Rattle.runs.proofs.Beginnings.{begun_stands}
+use Rattle.archive.specs.History.{begun_history}
+use Rattle.archive.proofs.Begun.{begun_stands}
 use Rattle.journal.specs.declared.fault.LoadFault.{LoadFault}
 use Rattle.journal.specs.Format.{Coding}
 use Rattle.journal.specs.Loading.{LoadLaw, LoadedFrom}

@@ -6,7 +6,7 @@ use Rattle.std.specs.List.{AllByRecursion}
 use Rattle.summary.specs.Summing.{Summing}
 use Rattle.archive.specs.declared.fault.EditFault.{EditFault}
 use Rattle.archive.specs.Calling.{Archive, Standing, EditTold}
-use Rattle.runs.specs.Runs.{History}
+use Rattle.archive.specs.History.{History}
 use Rattle.journal.specs.declared.fault.JournalFault.TheVariants as fault
 use Rattle.journal.specs.declared.fault.LoadFault.{LoadFault}
 use Rattle.journal.specs.Format.{Coding, Entry, row_of, asked_of, head_bytes, entry_bytes, entries_bytes, Fits}

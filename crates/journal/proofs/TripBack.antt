@@ -10,7 +10,7 @@ use Rattle.nodes.specs.declared.node.Node.{Node}
 use Rattle.archive.specs.declared.version.Version.{Version}
 use Rattle.archive.specs.declared.fault.EditFault.{EditFault}
 use Rattle.archive.specs.Calling.{Archive, Standing}
-use Rattle.runs.specs.Runs.{History, begun_history}
+use Rattle.archive.specs.History.{History, begun_history}
 use Rattle.journal.specs.declared.fault.JournalFault.{JournalFault}
 use Rattle.journal.specs.declared.fault.JournalFault.TheVariants as fault
 use Rattle.journal.specs.declared.fault.LoadFault.{LoadFault}

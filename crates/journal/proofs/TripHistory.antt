@@ -6,7 +6,7 @@ use Rattle.summary.specs.Summing.{Summing}
 use Rattle.flexlist.specs.Edits.{Edit}
 use Rattle.archive.specs.Calling.{Archive, Standing, number_in, edit_asked}
 use Rattle.archive.proofs.Later.{same_some}
-use Rattle.runs.specs.Runs.{History}
+use Rattle.archive.specs.History.{History}
 use Rattle.journal.specs.Format.{Coding, Entry, insert, change, removal, asked_of, entry_of, entries_of, head_bytes, entries_bytes, journal_bytes}
 use Rattle.journal.specs.Loading.{TookAll, Ended, whole, stopped, refused, TookIn, Loads, short, no_head, read}
 use Rattle.journal.specs.Writing.{journal_of, Writes, WrittenBack, ComesBack}

@@ -13,7 +13,7 @@ use Rattle.archive.specs.Stands.{Tables, RowsStand}
 use Rattle.archive.specs.Calling.{Archive, StandsInPlace, Standing}
 use Rattle.archive.proofs.Later.{edit_later, edit_new, edit_past, before_later, before_new, list_later, list_new, same_some, some_none}
 use Rattle.archive.proofs.Looks.{nth_some}
-use Rattle.runs.specs.Runs.{History}
+use Rattle.archive.specs.History.{History}
 use Rattle.journal.specs.Format.{Coding, Entry, entry_of, entries_of, insert_record, change_record, head_bytes, row_bytes, entry_bytes, entries_bytes}
 use Rattle.journal.specs.Writing.{journal_of}
 use Rattle.journal.specs.Written.{row_records, version_bytes, tables_bytes}

@@ -11,7 +11,7 @@ use Rattle.archive.specs.declared.fault.EditFault.{EditFault}
 use Rattle.archive.specs.declared.table.Accepted.{Accepted}
 use Rattle.archive.specs.Beginning.{Begin}
 use Rattle.archive.specs.Calling.{Archive, Standing, EditKept, EditAccepted, EditTold, asked_refusal, number_in, edit_asked}
-use Rattle.runs.specs.Runs.{History, begun_history}
+use Rattle.archive.specs.History.{History, begun_history}
 use Rattle.journal.specs.declared.fault.JournalFault.{JournalFault}
 use Rattle.journal.specs.declared.fault.JournalFault.TheVariants as fault
 use Rattle.journal.specs.declared.fault.LoadFault.{LoadFault}

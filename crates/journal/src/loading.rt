@@ -29,8 +29,8 @@ pub fn load<'a, S: BlockStore, Q: Summary<Reading = S::Reading>>(
     store: &mut S,
     area: &mut [S::Reading],
 ) -> Loaded<'a, Q>
-    ensures loaded { LoadedFrom Q.Summary.means S.BlockStore (coding S.Reading.Reading.own) nodes.old
-        versions.old store.old area.old bytes.now result.answer
+    ensures loaded { LoadedFrom Q.Summary.means S.BlockStore (coding S.Reading.Reading.own)
+        nodes.old versions.old store.old area.old bytes.now result.answer
         (archive_of result.table versions.new store.new) area.new }
     ensures same_slice { result.table.nodes.ghost_name ≡ nodes.entry.ghost_name }
 {

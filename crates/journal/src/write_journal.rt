@@ -29,9 +29,8 @@ fn write_tables<S: BlockStore>(
     store: &S,
     out: &mut [u8],
 ) -> Result<usize, JournalFault>
-    ensures { Writes
-        (tables_bytes (coding S.Reading.Reading.own) (S.BlockStore.rows store.now) versions.now count)
-        out.old result out.new }
+    ensures { Writes (tables_bytes (coding S.Reading.Reading.own) (S.BlockStore.rows store.now)
+        versions.now count) out.old result out.new }
 {
     let records = above_first(versions, count);
     let total = journal_size(store, records);
@@ -52,9 +51,8 @@ pub fn write<S: BlockStore, Q: Summary<Reading = S::Reading>>(
     out: &mut [u8],
 ) -> Result<usize, JournalFault>
     ensures left { WriteLeft out.old result out.new }
-    ensures exact { Writes
-        (tables_bytes (coding S.Reading.Reading.own) (S.BlockStore.rows store.now) versions.now table.now.count)
-        out.old result out.new }
+    ensures exact { Writes (tables_bytes (coding S.Reading.Reading.own)
+        (S.BlockStore.rows store.now) versions.now table.now.count) out.old result out.new }
     ensures law { S.Reading.Reading.CODE < 252 → WriteLaw Q.Summary.means S.BlockStore
         (coding S.Reading.Reading.own) (archive_of table.now versions.now store.now) out.old
         result out.new }

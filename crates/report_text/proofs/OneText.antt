@@ -12,7 +12,7 @@ use Rattle.archive.specs.declared.version.Version.{Version}
 use Rattle.archive.specs.declared.begin.Begun.{Begun}
 use Rattle.archive.specs.Beginning.{NotBegun, HasBegun}
 use Rattle.archive.specs.Calling.{Archive, Standing}
-use Rattle.runs.specs.Runs.{History, begun_history}
+use Rattle.archive.specs.History.{History, begun_history}
 use Rattle.journal.specs.declared.fault.LoadFault.{LoadFault}
 use Rattle.journal.specs.Loading.{Loads, LoadedFrom}
 use Rattle.journal.proofs.LoadSame.{SameLoads, loads_same}

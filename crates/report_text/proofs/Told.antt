@@ -25,7 +25,7 @@ use Rattle.archive.specs.Records.{record_of, record_by, edit_of, edits_before}
 use Rattle.archive.proofs.Later.{same_some}
 use Rattle.archive.proofs.Looks.{BaseFound, found_below}
 use Rattle.archive.proofs.Asks.{readings_counted}
-use Rattle.runs.specs.Runs.{History}
+use Rattle.archive.specs.History.{History}
 use Rattle.journal.specs.declared.fault.LoadFault.{LoadFault}
 use Rattle.report_text.specs.Report.{peaks, line_text, version_lines, table_text, fault_text, header, TopTold, LineTold, LinesTold, ReportedOver, ReportedFirst}
 

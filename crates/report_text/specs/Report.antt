@@ -18,7 +18,7 @@ use Rattle.archive.specs.declared.version.Version.{Version}
 use Rattle.archive.specs.Asking.{all_readings}
 use Rattle.archive.specs.Calling.{Archive, Standing}
 use Rattle.archive.specs.Records.{record_of}
-use Rattle.runs.specs.Runs.{History}
+use Rattle.archive.specs.History.{History}
 use Rattle.journal.specs.declared.fault.LoadFault.{LoadFault}
 use Rattle.journal.specs.Faults.{fault_number, inner_refusal, store_cause}
 use Rattle.journal.specs.Loading.{LoadedFrom}

@@ -33,8 +33,8 @@ fn report_over<S: BlockStore<Reading = Count> + Drop>(
     mut store: S,
     area: &mut [Count],
 ) -> Result<String, AllocError>
-    ensures { IfOk result
-        (λ s. ReportedOver S.BlockStore nodes.old versions.old store area.old bytes.now (string_bytes s)) }
+    ensures { IfOk result (λ s. ReportedOver S.BlockStore nodes.old versions.old store area.old
+        bytes.now (string_bytes s)) }
 {
     let Loaded { table, answer } = load(bytes, nodes, versions, &mut store, area);
     let mut text = String::from_str(heap, "version blocks readings written peak place\n")?;

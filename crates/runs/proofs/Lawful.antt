@@ -7,7 +7,8 @@ use Rattle.archive.specs.declared.fault.EditFault.{EditFault}
 use Rattle.archive.specs.declared.table.Accepted.{Accepted}
 use Rattle.archive.specs.Calling.{Archive, Asked, Answered, Standing, EditKept, EditAccepted, EditTold, RowRefused, asked_refusal}
 use Rattle.runs.specs.Calls.{Request, edit, reading, span, summary, Outcome, edited, read, spanned, summed, Contract}
-use Rattle.runs.specs.Runs.{History, Step, one_more, after, RunsLawful}
+use Rattle.archive.specs.History.{History}
+use Rattle.runs.specs.Runs.{Step, one_more, after, RunsLawful}
 
 module _ {R Q S : Type 0} (means : Summing R Q) (keeps : Keeping S R) where
   told_stands : (es : List (Edit R)) (s : Archive Q S) (asked : Asked R) (t : Archive Q S) (o : Option EditFault) (r : Result Accepted EditFault) → EditKept means keeps s asked r t → Standing means keeps (Some es) s

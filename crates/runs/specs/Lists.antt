@@ -16,7 +16,8 @@ use Rattle.runs.specs.declared.ran.Ran.{Ran}
 use Rattle.runs.specs.declared.reply.Reply.{Reply}
 use Rattle.runs.specs.declared.reply.Reply.TheVariants.{Edited, Read, Spanned, Summed}
 use Rattle.runs.specs.Calls.{Request, edit, reading, span, summary, Outcome, edited, read, spanned, summed, Contract, Chain}
-use Rattle.runs.specs.Runs.{History, begun_history, Run}
+use Rattle.archive.specs.History.{History, begun_history}
+use Rattle.runs.specs.Runs.{Run}
 
 module _ {R : Type 0} where
   -- the row that a call names in the readings beside it; one that does not lie in them has no reading

@@ -1,22 +1,13 @@
 -- The law over runs: what any calls answer and leave, one after another, by the replay of the edits accepted so far. Assumes nothing.
 use Rattle.store.specs.Keeping.{Keeping}
-use Rattle.std.specs.Prelude.{◌≡◌, cond, ◌||◌, List, [], ◌∷◌, length, Some, None, Ok, Err, Option, Result, ◌==◌}
+use Rattle.std.specs.Prelude.{◌≡◌, List, [], ◌∷◌, length, Some, Ok, Err, Result}
 use Rattle.summary.specs.Summing.{Summing}
 use Rattle.flexlist.specs.Edits.{Edit}
-use Rattle.nodes.specs.declared.node.Node.{Node}
-use Rattle.archive.specs.declared.version.Version.{Version}
 use Rattle.archive.specs.declared.fault.EditFault.{EditFault}
 use Rattle.archive.specs.declared.table.Accepted.{Accepted}
 use Rattle.archive.specs.Calling.{Archive, Asked, Standing, EditKept, EditTold, number_in, edit_asked, reading_told, span_told, span_leaves, summary_told}
+use Rattle.archive.specs.History.{History}
 use Rattle.runs.specs.Calls.{Request, edit, reading, span, summary, Outcome, edited, read, spanned, summed, Chain}
-
--- The edits accepted so far, the newest first; none where begin gave no versions.
-abbrev pub History : Type 0 → Type 0
-History R = Option (List (Edit R))
-
--- the history of an archive that has just begun: no edit; or none, where a table is empty
-abbrev pub begun_history : {R Q : Type 0} → List (Node Q) → List Version → History R
-begun_history nodes versions = cond (length nodes == 0 || length versions == 0) None (Some [])
 
 module _ {R Q S : Type 0} (means : Summing R Q) (keeps : Keeping S R) where
   -- A call in a run: it is answered as by the replay, and leaves what it should. A question leaves the archive; a span changes its own output.

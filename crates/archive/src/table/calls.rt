@@ -64,10 +64,12 @@ impl<Q: Summary> NodeTable<'_, Q> {
         level: u8,
         row: &[S::Reading],
     ) -> Result<Accepted, EditFault>
-        ensures kept { EditKept Q.Summary.means S.BlockStore (archive_of self.old versions.old store.old)
+        ensures kept { EditKept Q.Summary.means S.BlockStore
+            (archive_of self.old versions.old store.old)
             (asked.Asked.insert base place level row.now) result
             (archive_of self.new versions.new store.new) }
-        ensures law { EditLaw Q.Summary.means S.BlockStore (archive_of self.old versions.old store.old)
+        ensures law { EditLaw Q.Summary.means S.BlockStore
+            (archive_of self.old versions.old store.old)
             (asked.Asked.insert base place level row.now) result
             (archive_of self.new versions.new store.new) }
         ensures same_slice { self.new.nodes.ghost_name ≡ self.old.nodes.ghost_name }
@@ -91,11 +93,11 @@ impl<Q: Summary> NodeTable<'_, Q> {
         base: u32,
         row: &[S::Reading],
     ) -> Result<Accepted, EditFault>
-        ensures kept { EditKept Q.Summary.means S.BlockStore (archive_of self.old versions.old store.old)
-            (asked.Asked.append base row.now) result
+        ensures kept { EditKept Q.Summary.means S.BlockStore
+            (archive_of self.old versions.old store.old) (asked.Asked.append base row.now) result
             (archive_of self.new versions.new store.new) }
-        ensures law { EditLaw Q.Summary.means S.BlockStore (archive_of self.old versions.old store.old)
-            (asked.Asked.append base row.now) result
+        ensures law { EditLaw Q.Summary.means S.BlockStore
+            (archive_of self.old versions.old store.old) (asked.Asked.append base row.now) result
             (archive_of self.new versions.new store.new) }
         ensures same_slice { self.new.nodes.ghost_name ≡ self.old.nodes.ghost_name }
     {
@@ -112,12 +114,12 @@ impl<Q: Summary> NodeTable<'_, Q> {
         place: u32,
         row: &[S::Reading],
     ) -> Result<Accepted, EditFault>
-        ensures kept { EditKept Q.Summary.means S.BlockStore (archive_of self.old versions.old store.old)
-            (asked.Asked.change base place row.now) result
-            (archive_of self.new versions.new store.new) }
-        ensures law { EditLaw Q.Summary.means S.BlockStore (archive_of self.old versions.old store.old)
-            (asked.Asked.change base place row.now) result
-            (archive_of self.new versions.new store.new) }
+        ensures kept { EditKept Q.Summary.means S.BlockStore
+            (archive_of self.old versions.old store.old) (asked.Asked.change base place row.now)
+            result (archive_of self.new versions.new store.new) }
+        ensures law { EditLaw Q.Summary.means S.BlockStore
+            (archive_of self.old versions.old store.old) (asked.Asked.change base place row.now)
+            result (archive_of self.new versions.new store.new) }
         ensures same_slice { self.new.nodes.ghost_name ≡ self.old.nodes.ghost_name }
     {
         let used = self.used;
@@ -137,11 +139,11 @@ impl<Q: Summary> NodeTable<'_, Q> {
         base: u32,
         place: u32,
     ) -> Result<Accepted, EditFault>
-        ensures kept { EditKept Q.Summary.means S.BlockStore (archive_of self.old versions.old store.now)
-            (asked.Asked.removal base place) result
+        ensures kept { EditKept Q.Summary.means S.BlockStore
+            (archive_of self.old versions.old store.now) (asked.Asked.removal base place) result
             (archive_of self.new versions.new store.now) }
-        ensures law { EditLaw Q.Summary.means S.BlockStore (archive_of self.old versions.old store.now)
-            (asked.Asked.removal base place) result
+        ensures law { EditLaw Q.Summary.means S.BlockStore
+            (archive_of self.old versions.old store.now) (asked.Asked.removal base place) result
             (archive_of self.new versions.new store.now) }
         ensures same_slice { self.new.nodes.ghost_name ≡ self.old.nodes.ghost_name }
     {
@@ -162,8 +164,8 @@ impl<Q: Summary> NodeTable<'_, Q> {
         version: u32,
         position: u32,
     ) -> Result<Answer<S::Reading>, ReadFault>
-        ensures ends { ReadingEnds (position_refusal position (in_use versions.now self.now.count version))
-            result }
+        ensures ends { ReadingEnds
+            (position_refusal position (in_use versions.now self.now.count version)) result }
         ensures law { ReadingTold Q.Summary.means S.BlockStore
             (archive_of self.now versions.now store.now) version position result }
     {
@@ -182,10 +184,11 @@ impl<Q: Summary> NodeTable<'_, Q> {
         out: &mut [S::Reading],
     ) -> Result<u32, ReadFault>
         ensures ends { let short = output_refusal a b (length out.old) in
-            result ≡ answer_by (stretch_refusal a b (in_use versions.now self.now.count version) short) (b - a) }
+            result ≡ answer_by
+            (stretch_refusal a b (in_use versions.now self.now.count version) short) (b - a) }
         ensures left { SpanLeft a b out.old result out.new }
-        ensures law { SpanTold Q.Summary.means S.BlockStore (archive_of self.now versions.now store.now)
-            version a b out.old result out.new }
+        ensures law { SpanTold Q.Summary.means S.BlockStore
+            (archive_of self.now versions.now store.now) version a b out.old result out.new }
     {
         span_in(self.lent(), versions, self.count, store, version, a, b, out)
     }
@@ -199,8 +202,8 @@ impl<Q: Summary> NodeTable<'_, Q> {
         a: u32,
         b: u32,
     ) -> Result<Q, ReadFault>
-        ensures ends { SummaryEnds (stretch_refusal a b (in_use versions.now self.now.count version) None)
-            result }
+        ensures ends { SummaryEnds
+            (stretch_refusal a b (in_use versions.now self.now.count version) None) result }
         ensures law { SummaryTold Q.Summary.means S.BlockStore
             (archive_of self.now versions.now store.now) version a b result }
     {

@@ -9,7 +9,10 @@ impl<Q: Summary> NodeTable<'_, Q> {
     // Takes in what an edit wrote, and answers for it.
     pub(super) fn take_in(&mut self, built: Built) -> Accepted
         requires { (self.old.used ≤ built.used) × (self.old.count < 4096) }
-        ensures answer { result ≡ record { version = self.old.count; written = built.used - self.old.used } }
+        ensures answer { result ≡ record {
+          version = self.old.count;
+          written = built.used - self.old.used;
+        } }
         ensures used { self.new.used ≡ built.used }
         ensures count { self.new.count ≡ self.old.count + 1 }
         ensures nodes { self.new.nodes ≡ self.old.nodes }
